@@ -1,0 +1,4 @@
+pub mod Join
+pub mod Canonical
+pub mod Shapes
+pub mod Naming

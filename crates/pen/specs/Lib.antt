@@ -1,0 +1,4 @@
+pub mod Puts
+pub mod Ascending
+pub mod Canon
+pub mod Texts

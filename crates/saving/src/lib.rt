@@ -1,0 +1,2 @@
+// The one canonical text of each line.
+pub mod line;
