@@ -1,0 +1,13 @@
+pub mod Placing
+pub mod Assigning
+pub mod Rowing
+pub mod Looking
+pub mod Listing
+pub mod Removing
+pub mod Viewing
+pub mod Naming
+pub mod Regular
+pub mod Marking
+pub mod Wholeness
+pub mod Freshness
+pub mod Stable

@@ -1,0 +1,3 @@
+// Examples and edges of a board's tables.
+#[cfg(test)]
+mod tests;
