@@ -1,0 +1,9 @@
+pub mod Tracked
+pub mod Truth
+pub mod Turning
+pub mod Ruling
+pub mod Stripping
+pub mod Candidates
+pub mod Copying
+pub mod Settling
+pub mod Concluding
