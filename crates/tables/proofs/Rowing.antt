@@ -18,7 +18,8 @@ use Rattle.tables.specs.declared.entries.Row.{Row}
 use Rattle.tables.specs.declared.rows.RowChange.TheVariants.{Give, Take}
 use Rattle.tables.specs.declared.tables.Tables.{Tables}
 use Rattle.tables.specs.View.{assigned, state_of}
-use Rattle.tables.specs.Rows.{row_at, Used, Clash, in_use, is_of, with_rows, Changed, Lent, Apart, plus, minus, Done, Full, Unassigned}
+use Rattle.tables.specs.Valid.{row_at, Used, Clash}
+use Rattle.tables.specs.Rows.{in_use, is_of, with_rows, Changed, Lent, Apart, plus, minus, Done, Full, Unassigned}
 use Rattle.tables.proofs.Placing.{says, assigned_gives, assigned_at, used_gives, gives_used}
 use Rattle.tables.proofs.Assigning.{here, there, one_more, one_less, still_apart}
 
@@ -194,7 +195,7 @@ pub full : (t : Tables) (u : ℕ) → length t.rows ≡ 100 → ((k : ℕ) → k
     → ((k : ℕ) → k < 100 → (row_at t.rows k).user.number < 65536) → Full t u t
 full t u many none used small = record {
   same = refl;
-  no_row_lem = λ h. let (j, l, used-j, e) = holder_gives t u h in not_of u (row_at t.rows j) (none j (omega arith)) used-j (sym e);
+  no_row = λ h. let (j, l, used-j, e) = holder_gives t u h in not_of u (row_at t.rows j) (none j (omega arith)) used-j (sym e);
   no_room = λ apart free.
       let fits = free (users_of t.rows) (apart_users t.rows apart (λ k l. in_use k (omega arith)))
       (all_hold (λ _. ℕ) (state_of t) t.rows (λ k l. gives_holder t k l (in_use k (omega arith)) (small k (omega arith)))) in
