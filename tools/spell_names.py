@@ -35,7 +35,7 @@ CHOSEN = {
     "in-range": "in_range_lem",
     "in-set": "in_set",
     "isRoleNode": "names_role",
-    "isUsed": "in_use",
+    "isUsed": "is_used",
     "nothing-lost": "nothing_lost_lem",
     "semi-static": "is_semi_static",
     "semiStatic": "semi_static",

@@ -20,7 +20,7 @@ use Rattle.tables.specs.declared.rows.RowChange.TheVariants.{Give, Take}
 use Rattle.tables.specs.declared.tables.Tables.{Tables}
 use Rattle.tables.specs.View.{assigned, state_of}
 use Rattle.tables.specs.Valid.{row_at, no_row, Used, Clash}
-use Rattle.tables.specs.Rows.{in_use, is_of, with_rows, Changed, Lent, Apart, plus, minus, Done, Full, Unassigned}
+use Rattle.tables.specs.Rows.{is_used, is_of, with_rows, Changed, Lent, Apart, plus, minus, Done, Full, Unassigned}
 use Rattle.tables.proofs.Placing.{says, assigned_gives, assigned_at, used_gives, gives_used}
 
 module _ (rows : List Row) (i : ℕ) (x : Row) (lt : i < length rows) where

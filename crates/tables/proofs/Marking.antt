@@ -8,14 +8,14 @@ use Rattle.words.specs.Words.{with, bit, bits}
 use Rattle.words.proofs.Bits.{bit_none}
 use Rattle.tables.specs.declared.entries.Row.{Row}
 use Rattle.tables.specs.Valid.{row_at, Clash}
-use Rattle.tables.specs.Rows.{in_use}
+use Rattle.tables.specs.Rows.{is_used}
 use Rattle.tables.proofs.Placing.{used_gives, gives_used}
 
 -- the users of the rows in use before row i are marked, each once
 pub record Marked (rows : List Row) (i : ℕ) (f : ℕ → Bool) : Type 0 where
-  pub row : (n : ℕ) → f n ≡ true → (k : ℕ) × (k < i) × (in_use (row_at rows k) ≡ true) × (n ≡ (row_at rows k).user.number)
-  pub mark : (k : ℕ) → k < i → in_use (row_at rows k) ≡ true → f (row_at rows k).user.number ≡ true
-  pub once : (a b : ℕ) → a < b → b < i → in_use (row_at rows a) ≡ true → in_use (row_at rows b) ≡ true → (row_at rows a).user.number ≡ (row_at rows b).user.number → ⊥
+  pub row : (n : ℕ) → f n ≡ true → (k : ℕ) × (k < i) × (is_used (row_at rows k) ≡ true) × (n ≡ (row_at rows k).user.number)
+  pub mark : (k : ℕ) → k < i → is_used (row_at rows k) ≡ true → f (row_at rows k).user.number ≡ true
+  pub once : (a b : ℕ) → a < b → b < i → is_used (row_at rows a) ≡ true → is_used (row_at rows b) ≡ true → (row_at rows a).user.number ≡ (row_at rows b).user.number → ⊥
 
 module _ (rows : List Row) where
   pub none_marked : (f : ℕ → Bool) → ((n : ℕ) → f n ≡ false) → Marked rows 0 f
@@ -26,20 +26,20 @@ module _ (rows : List Row) where
   }
 
   module _ (i : ℕ) (f : ℕ → Bool) (m : Marked rows i f) where
-    pub row_free : in_use (row_at rows i) ≡ false → Marked rows (i + 1) f
+    pub row_free : is_used (row_at rows i) ≡ false → Marked rows (i + 1) f
     row_free free = record {
       row = λ n e. let (k, l, u, is) = m.row n e in (k, omega arith, u, is);
       mark = λ k l u. m.mark k (below k l u) u;
       once = λ a b ab l u v e. m.once a b ab (below b l v) u v e;
     }
       where
-        below : (k : ℕ) → k < i + 1 → in_use (row_at rows k) ≡ true → k < i
+        below : (k : ℕ) → k < i + 1 → is_used (row_at rows k) ≡ true → k < i
         below k l u = ⊎_elim
-            (λ (e : k ≡ i). absurd (both_ways (in_use (row_at rows i)) free (subst (λ (j : ℕ). in_use (row_at rows j) ≡ true) e u)))
+            (λ (e : k ≡ i). absurd (both_ways (is_used (row_at rows i)) free (subst (λ (j : ℕ). is_used (row_at rows j) ≡ true) e u)))
             (λ (ne : k ≡ i → ⊥). omega (arith, ne))
             (cases_eq k i)
 
-    pub row_marked : (n : ℕ) → in_use (row_at rows i) ≡ true → n ≡ (row_at rows i).user.number → f n ≡ false → Marked rows (i + 1) (with f n)
+    pub row_marked : (n : ℕ) → is_used (row_at rows i) ≡ true → n ≡ (row_at rows i).user.number → f n ≡ false → Marked rows (i + 1) (with f n)
     row_marked n used is fresh = record {
       row = λ v e. elim (or_cases (f v) (eqb v n) e) [
         | inl h ↦ let (k, l, u, at) = m.row v h in (k, omega arith, u, at)
@@ -57,7 +57,7 @@ module _ (rows : List Row) where
     }
 
     -- a user who is marked already has two rows
-    pub marked_twice : (n : ℕ) → i < length rows → in_use (row_at rows i) ≡ true → n ≡ (row_at rows i).user.number → f n ≡ true → ((a b : ℕ) → Clash rows a b → ⊥) → ⊥
+    pub marked_twice : (n : ℕ) → i < length rows → is_used (row_at rows i) ≡ true → n ≡ (row_at rows i).user.number → f n ≡ true → ((a b : ℕ) → Clash rows a b → ⊥) → ⊥
     marked_twice n l used is e apart = let (k, ki, u, at) = m.row n e in apart k i (ki, l, used_gives (row_at rows k) u, used_gives (row_at rows i) used, sym at ∙ is)
 
     pub all_marked : length rows ≤ i → (a b : ℕ) → Clash rows a b → ⊥

@@ -15,7 +15,7 @@ use Rattle.tables.specs.declared.regime.Named.{Named}
 use Rattle.tables.specs.Named.{OfAssigns, OfRevokes}
 use Rattle.tables.specs.View.{assigned, assign_of, revoke_of}
 use Rattle.tables.specs.Valid.{row_at, no_row, Used}
-use Rattle.tables.specs.Rows.{in_use}
+use Rattle.tables.specs.Rows.{is_used}
 use Rattle.tables.proofs.Listing.{any, any_gives, any_at, any_more, nth_map, map_nth}
 use Rattle.tables.proofs.Placing.{says, assigned_gives, assigned_at, used_gives, gives_used}
 
@@ -60,7 +60,7 @@ abbrev pub row_roles : Row → ℕ → Bool
 row_roles x r = roles_of x.roles r
 
 -- a row that is not in use adds nothing
-pub nothing_new : (rows : List Row) (i : ℕ) → i < length rows → in_use (row_at rows i) ≡ false → (held : ℕ → Bool)
+pub nothing_new : (rows : List Row) (i : ℕ) → i < length rows → is_used (row_at rows i) ≡ false → (held : ℕ → Bool)
     → ((r : ℕ) → held r ≡ any row_roles (take i rows) r) → (r : ℕ) → held r ≡ any row_roles (take (i + 1) rows) r
 nothing_new rows i l free held h r = h r ∙ sym (any_more row_roles rows i no_row l r ∙ none (any row_roles (take i rows) r) (roles_of (row_at rows i).roles r) refl)
   where
@@ -69,7 +69,7 @@ nothing_new rows i l free held h r = h r ∙ sym (any_more row_roles rows i no_r
     none false true e = sym (gives_used (row_at rows i) (r, as_test _ e)) ∙ free
     none false false e = refl
 
-pub held_told : (rows : List Row) (held : ℕ → Bool) → ((r : ℕ) → held r ≡ any row_roles rows r) → ((k : ℕ) → k < length rows → in_use (row_at rows k) ≡ true → (row_at rows k).user.number < 65536)
+pub held_told : (rows : List Row) (held : ℕ → Bool) → ((r : ℕ) → held r ≡ any row_roles rows r) → ((k : ℕ) → k < length rows → is_used (row_at rows k) ≡ true → (row_at rows k).user.number < 65536)
     → (r : ℕ) → Decides (held r) ((u : ℕ) × (u < 65536) × T (assigned rows u r))
 held_told rows held is small r = (
   (λ e.

@@ -10,7 +10,7 @@ use Rattle.rbac.proofs.Masks.{roles_past}
 use Rattle.tables.specs.declared.entries.Row.{Row}
 use Rattle.tables.specs.View.{assigned}
 use Rattle.tables.specs.Valid.{row_at, Used}
-use Rattle.tables.specs.Rows.{in_use}
+use Rattle.tables.specs.Rows.{is_used}
 
 -- what one row says
 abbrev pub says : Row → ℕ → ℕ → Bool
@@ -34,26 +34,26 @@ pub role_small : (x : Row) (r : ℕ) → T (roles_of x.roles r) → r < 64
 role_small x r h = ⊎_elim (λ (l : r < 64). l) (λ (l : 64 ≤ r). absurd (subst T (roles_past x.roles r l) h)) (cases_lt r 64)
 
 -- a row in use has a role, and one with a role is in use
-pub used_gives : (x : Row) → in_use x ≡ true → Used x
-unfolding in_use
+pub used_gives : (x : Row) → is_used x ≡ true → Used x
+unfolding is_used
 used_gives x h = let (r, l, t) = some_gives 64 (roles_of x.roles) (as_test (some 64 (roles_of x.roles)) h) in (r, t)
 
-pub gives_used : (x : Row) → Used x → in_use x ≡ true
-unfolding in_use
+pub gives_used : (x : Row) → Used x → is_used x ≡ true
+unfolding is_used
 gives_used x (r, t) = as_true (some 64 (roles_of x.roles)) (some_at 64 (roles_of x.roles) r (role_small x r t) t)
 
-pub used_is : (x : Row) (empty : Bool) → Decides empty ((k : ℕ) → roles_of x.roles k ≡ false) → not empty ≡ in_use x
-used_is x true d = sym (unused (in_use x) refl)
+pub used_is : (x : Row) (empty : Bool) → Decides empty ((k : ℕ) → roles_of x.roles k ≡ false) → not empty ≡ is_used x
+used_is x true d = sym (unused (is_used x) refl)
   where
-    unused : (b : Bool) → in_use x ≡ b → in_use x ≡ false
+    unused : (b : Bool) → is_used x ≡ b → is_used x ≡ false
     unused true e = let (r, t) = used_gives x e in absurd (subst T (d.0 refl r) t)
     unused false e = e
-used_is x false d = used (in_use x) refl
+used_is x false d = used (is_used x) refl
   where
-    used : (b : Bool) → in_use x ≡ b → true ≡ in_use x
+    used : (b : Bool) → is_used x ≡ b → true ≡ is_used x
     used true e = sym e
     used false e = absurd (both_ways false refl (d.1 (λ k. off k (roles_of x.roles k) refl)))
       where
         off : (k : ℕ) (b : Bool) → roles_of x.roles k ≡ b → roles_of x.roles k ≡ false
-        off k true h = absurd (both_ways (in_use x) e (gives_used x (k, as_test (roles_of x.roles k) h)))
+        off k true h = absurd (both_ways (is_used x) e (gives_used x (k, as_test (roles_of x.roles k) h)))
         off k false h = h

@@ -19,7 +19,7 @@ use Rattle.tables.specs.declared.rows.RowChange.TheVariants.{Give, Take}
 use Rattle.tables.specs.declared.tables.Tables.{Tables}
 use Rattle.tables.specs.View.{assigned, state_of}
 use Rattle.tables.specs.Valid.{row_at, Used, Clash}
-use Rattle.tables.specs.Rows.{in_use, is_of, with_rows, Changed, Lent, Apart, plus, minus, Done, Full, Unassigned}
+use Rattle.tables.specs.Rows.{is_used, is_of, with_rows, Changed, Lent, Apart, plus, minus, Done, Full, Unassigned}
 use Rattle.tables.proofs.Placing.{says, assigned_gives, assigned_at, used_gives, gives_used}
 use Rattle.tables.proofs.Assigning.{here, there, one_more, one_less, still_apart}
 
@@ -45,10 +45,10 @@ gives_holder t i l (r, h) small =
     )
 
 pub of_used : (u : ℕ) (x : Row) → is_of u x ≡ true → Used x × (x.user.number ≡ u)
-of_used u x h = let p = and_parts (in_use x) (eqb x.user.number u) h in (used_gives x p.0, eqb-true x.user.number u p.1)
+of_used u x h = let p = and_parts (is_used x) (eqb x.user.number u) h in (used_gives x p.0, eqb-true x.user.number u p.1)
 
 pub not_of : (u : ℕ) (x : Row) → is_of u x ≡ false → Used x → x.user.number ≡ u → ⊥
-not_of u x h used e = both_ways (is_of u x) h (and_from (in_use x) (eqb x.user.number u) (gives_used x used) (eq-eqb x.user.number u e))
+not_of u x h used e = both_ways (is_of u x) h (and_from (is_used x) (eqb x.user.number u) (gives_used x used) (eq-eqb x.user.number u e))
 
 not_true : (b : Bool) → not b ≡ true → b ≡ true → ⊥
 not_true true e f = both_ways false refl e
@@ -144,11 +144,11 @@ as_many (x ∷ xs) = ap suc (as_many xs)
 
 -- a row that is free, for a user who has none
 pub done_fresh : (t : Tables) (i : ℕ) → length t.rows ≡ 100 → i < 100 → (u : User) (r : Role) (x : Row) → u.number < 65536 → Changed (Give u r) (row_at t.rows i) x
-    → not (in_use (row_at t.rows i)) ≡ true → ((k : ℕ) → k < 100 → is_of u.number (row_at t.rows k) ≡ false)
+    → not (is_used (row_at t.rows i)) ≡ true → ((k : ℕ) → k < 100 → is_of u.number (row_at t.rows k) ≡ false)
     → (after : Tables) → after ≡ with_rows t (set t.rows i x) → Done t u.number r.number after
 done_fresh t i full small-i u r x small given free none after whole =
     done t i lt u r x small given
-    (λ used. absurd (not_true (in_use (row_at t.rows i)) free (gives_used (row_at t.rows i) used)))
+    (λ used. absurd (not_true (is_used (row_at t.rows i)) free (gives_used (row_at t.rows i) used)))
     (λ apart j ne l used e. not_of u.number (row_at t.rows j) (none j (omega arith)) used e)
     (free_row (state_of t) u.number ys all me (omega (arith, as_many (set t.rows i x), length-set t.rows i x)))
     after whole
@@ -167,7 +167,7 @@ done_fresh t i full small-i u r x small given free none after whole =
     all v h =
         let (j, l, used, e) = holder_gives t v h in
         ⊎_elim
-        (λ (same : j ≡ i). absurd (not_true (in_use (row_at t.rows i)) free (gives_used (row_at t.rows i) (subst (λ (k : ℕ). Used (row_at t.rows k)) same used))))
+        (λ (same : j ≡ i). absurd (not_true (is_used (row_at t.rows i)) free (gives_used (row_at t.rows i) (subst (λ (k : ℕ). Used (row_at t.rows k)) same used))))
         (λ (ne : j ≡ i → ⊥). subst⁻¹ (λ (n : ℕ). T (listed ys n)) (e ∙ ap (λ (y : Row). y.user.number) (sym (there t.rows i x lt j ne)))
         (listed_at (set t.rows i x) j (omega (arith, length-set t.rows i x))))
         (cases_eq j i)
@@ -191,7 +191,7 @@ all_hold : (P : ℕ → Type 0) (s : ℕ → ℕ → Bool) (rows : List Row) →
 all_hold P s [] f = tt
 all_hold P s (x ∷ xs) f = (f 0 (omega arith), all_hold P s xs (λ k l. f (suc k) (omega arith)))
 
-pub full : (t : Tables) (u : ℕ) → length t.rows ≡ 100 → ((k : ℕ) → k < 100 → is_of u (row_at t.rows k) ≡ false) → ((k : ℕ) → k < 100 → not (in_use (row_at t.rows k)) ≡ false)
+pub full : (t : Tables) (u : ℕ) → length t.rows ≡ 100 → ((k : ℕ) → k < 100 → is_of u (row_at t.rows k) ≡ false) → ((k : ℕ) → k < 100 → not (is_used (row_at t.rows k)) ≡ false)
     → ((k : ℕ) → k < 100 → (row_at t.rows k).user.number < 65536) → Full t u t
 full t u many none used small = record {
   same = refl;
@@ -207,7 +207,7 @@ full t u many none used small = record {
     is_true false e = sym e
 
     in_use : (k : ℕ) → k < 100 → Used (row_at t.rows k)
-    in_use k l = used_gives (row_at t.rows k) (is_true (in_use (row_at t.rows k)) (used k l))
+    in_use k l = used_gives (row_at t.rows k) (is_true (is_used (row_at t.rows k)) (used k l))
 
 -- a role taken from the row that is found
 pub taken : (t : Tables) (i : ℕ) → i < length t.rows → (u r : ℕ) (role : Role) → role.number ≡ r → (x : Row) → Changed (Take role) (row_at t.rows i) x

@@ -17,11 +17,11 @@ use Rattle.tables.specs.View.{state_of}
 use Rattle.tables.specs.Valid.{row_at, Clash}
 
 -- a row is in use while some role stands in it, and it is this user's where it is in use and has that number
-unfoldable pub in_use : Row → Bool
-in_use x = some roles (roles_of x.roles)
+unfoldable pub is_used : Row → Bool
+is_used x = some roles (roles_of x.roles)
 
 abbrev pub is_of : UserNumber → Row → Bool
-is_of u x = in_use x && x.user.number == u
+is_of u x = is_used x && x.user.number == u
 
 -- the row after a change: one role more for the user that is given, or one role less
 abbrev pub Changed : RowChange → Row → Row → Type 0

@@ -1,7 +1,7 @@
 // Rows: one is found by its user, lent for a change, and free again when its last role goes.
 ghost use Rattle.std.specs.Prelude.{◌≡◌, ℕ, ◌<◌, true, false, not, length, IfNone, MatchOption};
 ghost use Rattle.policy.specs.Measures.{users, rows};
-ghost use Rattle.tables.specs.Rows.{Changed, Lent, FirstBelow, in_use, is_of, Assigned, Unassigned};
+ghost use Rattle.tables.specs.Rows.{Changed, Lent, FirstBelow, is_used, is_of, Assigned, Unassigned};
 ghost use Rattle.tables.specs.Valid.{row_at};
 
 use crate::entries::Row;
@@ -18,7 +18,7 @@ pub enum RowChange {
 
 impl Row {
     fn is_used(&self) -> bool
-        ensures { result ≡ in_use self.now }
+        ensures { result ≡ is_used self.now }
     {
         !self.roles.is_empty()
     }
@@ -33,7 +33,7 @@ impl Row {
 
     // The number of the user, where the row is in use.
     pub(crate) fn holder(&self) -> Option<u16>
-        ensures { MatchOption result (in_use self.now ≡ false) (λ n. (in_use self.now ≡ true) × (n ≡ self.now.user.number) × (n < users)) }
+        ensures { MatchOption result (is_used self.now ≡ false) (λ n. (is_used self.now ≡ true) × (n ≡ self.now.user.number) × (n < users)) }
     {
         if self.is_used() {
             Some(self.user.number())
@@ -82,7 +82,7 @@ impl Tables {
     }
 
     fn free_place(&self) -> Option<usize>
-        ensures { FirstBelow (λ k. not (in_use (row_at self.now.rows k))) rows result }
+        ensures { FirstBelow (λ k. not (is_used (row_at self.now.rows k))) rows result }
     {
         for i in 0..ROWS {
             if !self.rows[i].is_used() {

@@ -3,7 +3,7 @@ use Rattle.std.proofs.lemmas.List.{take_all, get_or_default}
 use Rattle.std.proofs.lemmas.Bool.{both_ways}
 use Rattle.policy.specs.Measures.{users}
 use Rattle.rbac.specs.Roles.{roles_of}
-use Rattle.tables.specs.Rows.{in_use}
+use Rattle.tables.specs.Rows.{is_used}
 use Rattle.tables.specs.Valid.{row_at, no_row}
 use Rattle.tables.proofs.Listing.{any}
 use Rattle.tables.proofs.Naming.{counted, nothing_new, row_roles, held_told}
@@ -18,12 +18,12 @@ loop-row-preserved c =
     elim c.match-holder.branch [
       | in-Some w ↦ (
         counted row_roles rows i (row_at rows i) taken (get_or_default rows i no_row (row_at rows i) taken) (roles_of c.loop-row.held) (roles_of c.match-holder.held) c.loop-row.invariant.0 (ap roles_of w.held-is ∙ w.union-held.ensures),
-        below_more (λ k. in_use (row_at rows k) ≡ true → (row_at rows k).user.number < users) i c.loop-row.invariant.1
+        below_more (λ k. is_used (row_at rows k) ≡ true → (row_at rows k).user.number < users) i c.loop-row.invariant.1
             (λ _. subst (λ (n : ℕ). n < users) w.in-Some.ensures.1 w.in-Some.ensures.2),
       )
       | in-default w ↦ (
         λ r. ap (λ s. roles_of s r) w.held-is ∙ nothing_new rows i taken w.in-default.ensures (roles_of c.loop-row.held) c.loop-row.invariant.0 r,
-        below_more (λ k. in_use (row_at rows k) ≡ true → (row_at rows k).user.number < users) i c.loop-row.invariant.1 (λ used. absurd (both_ways (in_use (row_at rows i)) w.in-default.ensures used)),
+        below_more (λ k. is_used (row_at rows k) ≡ true → (row_at rows k).user.number < users) i c.loop-row.invariant.1 (λ used. absurd (both_ways (is_used (row_at rows i)) w.in-default.ensures used)),
       )
     ]
 
