@@ -1,4 +1,6 @@
 // Reads a board text from standard input, and prints each of its lines in canonical form, or the refusal of the text and nothing else.
+#![tactic(auto)]
+
 use grammar::Reader;
 use lines::{Change, Extra};
 use policy::{Regime, TRUSTED_USERS};

@@ -1,5 +1,5 @@
 -- What the tests of the code say of an open step, and which steps are not worth a try.
-use Rattle.std.proofs.Common.{◌≡◌, ℕ, zero, suc, ◌+◌, ◌*◌, ◌/◌, ◌%◌, ◌<◌, ◌≤◌, Bool, true, false, not, ◌&&◌, ◌||◌, T, ltb, ◌⊎◌, List, length, get_or, Decides, sym, refl, ap, ◌∙◌, subst, ap₂, inl, inr, ⊎_elim, arith, ltb→lt, lt→ltb}
+use Rattle.std.proofs.Common.{◌≡◌, ℕ, ◌+◌, ◌*◌, ◌/◌, ◌%◌, ◌<◌, ◌≤◌, Bool, true, false, not, ◌&&◌, ◌||◌, T, ltb, List, get_or, sym, refl, ap, ◌∙◌, subst, ap₂, ⊎_elim, arith, ltb→lt, lt→ltb}
 use mathlib.Core.Path.{fun_ext}
 use Rattle.std.proofs.lemmas.Bool.{cases_lt, both_ways}
 use Rattle.words.specs.Words.{bit, bits}
@@ -7,11 +7,11 @@ use Rattle.steps.specs.Steps.{Leap}
 use Rattle.policy.specs.Tests.{some}
 use Rattle.policy.specs.Rules.{Policy, AssignRule}
 use Rattle.policy.specs.Delegation.{member_test, meets_test, row_at, rule_of, slot_of, role_of}
-use Rattle.policy.proofs.Tests.{some_at, some_gives, as_true, as_test, as_false, deny, first, second, both}
+use Rattle.policy.proofs.Tests.{some_at, some_gives, as_true, as_test, as_false, deny}
 use Rattle.rbac.specs.declared.sets.RoleSet.{RoleSet}
 use Rattle.rbac.specs.declared.users.User.{User as AUser}
 use Rattle.rbac.specs.Roles.{roles_of}
-use Rattle.rbac.proofs.Masks.{of, roles_low, roles_past}
+use Rattle.rbac.proofs.Masks.{of, roles_low}
 use Rattle.deciding.specs.Masked.{down_of}
 use Rattle.deciding.specs.Delegates.{First, user_at, may_act, delegates}
 

@@ -1,8 +1,8 @@
 -- The tables' entries as the rules of the policy.
-use Rattle.std.proofs.Common.{◌≡◌, ℕ, zero, suc, ◌+◌, ◌*◌, ◌/◌, ◌<◌, ◌≤◌, min, List, [], ◌∷◌, map, length, get_or, take, sym, refl, ap, ◌∙◌, subst, not-suc-le-zero, arith, length-take}
+use Rattle.std.proofs.Common.{◌≡◌, ℕ, zero, suc, ◌*◌, ◌/◌, ◌<◌, min, List, [], ◌∷◌, map, length, get_or, refl, ap, ◌∙◌, subst, not-suc-le-zero, arith, length-take}
 use Rattle.std.proofs.lemmas.List.{get_or-take}
-use Rattle.policy.specs.Rules.{AssignRule, Nth}
-use Rattle.policy.specs.Delegation.{no_rule, rule_of}
+use Rattle.policy.specs.Rules.{Nth}
+use Rattle.policy.specs.Delegation.{no_rule}
 use Rattle.policy.proofs.Numbered.{nth_at}
 use Rattle.tables.specs.declared.entries.AssignEntry.{AssignEntry}
 use Rattle.tables.specs.declared.tables.Tables.{Tables}

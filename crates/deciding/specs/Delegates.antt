@@ -1,5 +1,5 @@
 -- Delegation as the step system that the code runs: the users of the first slots of a table, and runs of plain steps.
-use Rattle.std.specs.Prelude.{◌≡◌, ℕ, ◌*◌, ◌%◌, ◌<◌, ◌≤◌, Bool, true, false, not, ◌&&◌, T, List, [], ◌∷◌, map, length, slice_index_or}
+use Rattle.std.specs.Prelude.{◌≡◌, ℕ, ◌*◌, ◌%◌, ◌<◌, ◌≤◌, Bool, true, false, not, ◌&&◌, List, length, slice_index_or}
 use Rattle.std.proofs.Common.{arith}
 use Rattle.steps.specs.Steps.{System, Facts, Lawful}
 use Rattle.policy.specs.Measures.{list_places}

@@ -1,4 +1,6 @@
 // What a question is worked out from: the users it looks at, and what they can make of the board by adding.
+#![tactic(auto)]
+
 mod delegating;
 mod delegation;
 mod masks;

@@ -1,6 +1,6 @@
 -- A pipeline as a step system: stage 0 can always be done, and each later one when the stage before it is done.
 use Rattle.std.specs.Prelude.{◌≡◌, ℕ, ◌-◌, Bool, true, false, cond, ◌==◌, refl}
-use Rattle.steps.specs.Steps.{System, Facts, Lawful}
+use Rattle.steps.specs.Steps.{System, Lawful}
 
 abbrev pub pipeline : ℕ → System ℕ
 pipeline n = record {

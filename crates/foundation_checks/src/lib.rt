@@ -1,4 +1,6 @@
 // Examples and edges of the foundation: numbers, role sets, step systems, hierarchies.
+#![tactic(auto)]
+
 mod pipeline;
 
 pub use pipeline::Pipeline;

@@ -1,10 +1,9 @@
 -- A phrase that stands in the text is scanned to its end, and counted.
-use Rattle.std.proofs.Common.{◌≡◌, ℕ, zero, suc, ◌+◌, ◌-◌, ◌<◌, ◌≤◌, max, Bool, true, false, cond, ◌&&◌, List, [], ◌∷◌, ◌++◌, decimal, sym, refl, ap, ◌∙◌, subst, append_assoc, arith}
+use Rattle.std.proofs.Common.{◌≡◌, ℕ, suc, ◌+◌, max, Bool, true, false, ◌&&◌, List, [], ◌∷◌, ◌++◌, decimal, sym, refl, ap, ◌∙◌, append_assoc, arith}
 use Rattle.grammar.specs.declared.sizes.Size.{Size}
-use Rattle.grammar.specs.declared.sizes.State.{State}
 use Rattle.grammar.specs.declared.sizes.Mode.{Mode}
 use Rattle.grammar.specs.declared.sizes.Mode.TheVariants.{Operand, Sign, User, Comma, Another}
-use Rattle.grammar.specs.Text.{begins, begins_digit, Read, got, none, number}
+use Rattle.grammar.specs.Text.{begins_digit}
 use Rattle.policy.specs.Sets.{UserSet, members, holders, only, nobody}
 use Rattle.grammar.specs.Phrase.{Kind, set, term, factor, users, Phrase, one, or, lone, and, a_role, a_permission, no_users, braces, parens, a_user, also, render, meaning, levels, Short}
 use Rattle.grammar.specs.Scan.{sized, size_of, grow, at, go, pick, leaf, step, scanned}

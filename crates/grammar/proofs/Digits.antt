@@ -1,8 +1,8 @@
 -- Runs of bytes, and the number that digits write.
-use Rattle.std.proofs.Common.{◌≡◌, ℕ, zero, suc, ◌+◌, ◌-◌, ◌*◌, ◌^◌, ◌<◌, ◌≤◌, Bool, true, false, cond, not, ◌&&◌, ◌||◌, eqb, ltb, leb, ◌⊎◌, List, [], ◌∷◌, ◌++◌, length, get_or, take, drop, Some, None, Option, sym, refl, ap, ◌∙◌, subst, ⊎_elim, pow-suc, add-one, arith, Bor, lt-ltb, eq-eqb, ne_eqb, le-leb, leb-true}
+use Rattle.std.proofs.Common.{◌≡◌, ℕ, zero, suc, ◌+◌, ◌-◌, ◌*◌, ◌^◌, ◌<◌, ◌≤◌, Bool, true, false, cond, not, ◌&&◌, ◌||◌, ltb, leb, ◌⊎◌, List, [], ◌∷◌, length, get_or, take, drop, Some, None, Option, sym, refl, ap, ◌∙◌, subst, ⊎_elim, pow-suc, add-one, arith, Bor, lt-ltb, ne_eqb, le-leb, leb-true}
 use borrow.Author.Tests.{lt-leb}
 use Rattle.std.proofs.lemmas.List.{drop_more, drop_all, length-take-le, get_or-take, length-drop, drop-drop, take_all}
-use Rattle.std.proofs.lemmas.Bool.{cond-true, cond-false, and_parts, both_ways, and_from, or_left, or_right, not_from_false}
+use Rattle.std.proofs.lemmas.Bool.{cond-true, cond-false, and_parts, and_from, or_left, or_right, not_from_false}
 use Rattle.grammar.specs.Text.{begins, run, is_digit, value, well_formed, number, begins_zero, Read, got, none, passes, Cut, ahead, behind, is_letter, taken, Reads}
 use Rattle.grammar.specs.declared.tokens.Part.{Part}
 use Rattle.grammar.specs.declared.tokens.Part.TheVariants.{Word, Number, Sign, End}

@@ -1,10 +1,10 @@
 -- All steps of the scanning, with no bound on their number.
-use Rattle.std.proofs.Common.{◌≡◌, ℕ, zero, suc, ◌+◌, ◌-◌, ◌<◌, ◌≤◌, Bool, true, false, cond, ◌&&◌, ◌⊎◌, List, [], ◌∷◌, ◌++◌, length, decimal, sym, refl, ap, ◌∙◌, subst, inl, inr, arith, length-append}
+use Rattle.std.proofs.Common.{◌≡◌, ℕ, zero, suc, ◌+◌, ◌<◌, ◌≤◌, ◌⊎◌, List, ◌++◌, length, decimal, refl, ap, ◌∙◌, inl, inr, arith, length-append}
 use Rattle.grammar.specs.declared.sizes.Size.{Size}
 use Rattle.grammar.specs.declared.sizes.State.{State}
 use Rattle.grammar.specs.declared.sizes.Mode.{Mode}
 use Rattle.grammar.specs.Text.{got, number}
-use Rattle.grammar.specs.Scan.{Next, go, stop, bad, at, step_at, step, Out, ok, no, onward, runs, scanned}
+use Rattle.grammar.specs.Scan.{Next, go, stop, bad, step, ok, no, onward, runs, scanned}
 use Rattle.grammar.proofs.Numbers.{number_read}
 use Rattle.grammar.proofs.Steps.{Move, opens, a_role, a_permission, none_in, enters, joins_or, joins_and, closes, a_user, comma, leaves, another, moves}
 

@@ -1,14 +1,14 @@
 -- What is scanned to an end is a phrase, and counted.
-use Rattle.std.proofs.Common.{◌≡◌, ℕ, zero, suc, ◌+◌, ◌-◌, ◌<◌, ◌≤◌, max, Bool, true, false, cond, ◌&&◌, ◌⊎◌, List, [], ◌∷◌, ◌++◌, length, Some, None, decimal, Option, sym, refl, ap, ◌∙◌, subst, inl, inr, append_assoc, add_assoc, arith}
+use Rattle.std.proofs.Common.{◌≡◌, ℕ, zero, suc, ◌<◌, max, ◌⊎◌, List, [], ◌∷◌, ◌++◌, length, Some, None, decimal, Option, sym, refl, ap, ◌∙◌, inl, inr, append_assoc, arith}
 use Rattle.grammar.specs.declared.sizes.Size.{Size}
 use Rattle.grammar.specs.declared.sizes.State.{State}
 use Rattle.grammar.specs.declared.sizes.Mode.{Mode}
 use Rattle.grammar.specs.declared.sizes.Mode.TheVariants.{Operand, Sign, User, Comma, Another}
 use Rattle.grammar.specs.Text.{Read, got, none, number}
 use Rattle.grammar.specs.Phrase as P
-use Rattle.policy.specs.Sets.{UserSet, members, holders, only, nobody}
+use Rattle.policy.specs.Sets.{UserSet, members, holders, only}
 use Rattle.grammar.specs.Phrase.{Kind, set, term, factor, users, Phrase, one, or, lone, and, no_users, braces, parens, also, render, meaning, levels, Short, Written, Ends}
-use Rattle.grammar.specs.Scan.{sized, size_of, grow, Next, go, stop, bad, at, pick, close, leaf, step, step_at, Out, ok, no, runs, scanned, empty, heard, Scanned}
+use Rattle.grammar.specs.Scan.{sized, size_of, grow, Next, go, stop, bad, at, pick, leaf, step, step_at, ok, no, runs, scanned, empty, heard, Scanned}
 use Rattle.grammar.proofs.Numbers.{number_read}
 use Rattle.grammar.proofs.Steps.{Move, opens, a_role, a_permission, none_in, enters, joins_or, joins_and, closes, a_user, comma, leaves, another, moves, Way, pick_ways, pick_not}
 use Rattle.grammar.proofs.Runs.{first_turn, stops}

@@ -1,5 +1,5 @@
 -- One step of the scanning, and all of them.
-use Rattle.std.proofs.Common.{◌≡◌, ℕ, zero, suc, ◌+◌, ◌-◌, ◌<◌, ◌≤◌, max, Bool, true, false, cond, ◌&&◌, eqb, ◌⊎◌, List, [], ◌∷◌, ◌++◌, length, decimal, sym, refl, ap, ◌∙◌, subst, inl, inr, append_assoc, arith, length-append, eq-eqb, eqb-true}
+use Rattle.std.proofs.Common.{◌≡◌, ℕ, zero, suc, Bool, true, false, cond, eqb, ◌⊎◌, List, [], ◌∷◌, sym, refl, ap, ◌∙◌, subst, inl, inr, arith, eq-eqb, eqb-true}
 use Rattle.std.proofs.lemmas.Bool.{cond-true, cond-false}
 use Rattle.grammar.specs.declared.sizes.Size.{Size}
 use Rattle.grammar.specs.declared.sizes.State.{State}
@@ -7,8 +7,7 @@ use Rattle.grammar.specs.declared.sizes.Mode.{Mode}
 use Rattle.grammar.specs.declared.sizes.Mode.TheVariants.{Operand, Sign, User, Comma, Another}
 use Rattle.grammar.specs.Text.{begins, Read, got, none, number}
 use Rattle.policy.specs.Sets.{UserSet, members, holders, only, nobody}
-use Rattle.grammar.specs.Scan.{sized, grow, Next, go, stop, bad, at, pick, leaf, leaf_by, user_step, close, step_at, step, Out, ok, no, onward, runs, scanned}
-use Rattle.grammar.proofs.Numbers.{number_read}
+use Rattle.grammar.specs.Scan.{sized, grow, Next, go, bad, at, pick, leaf, leaf_by, user_step, close, step_at}
 
 pub pick_take : (c : ℕ) (s s1 : List ℕ) (f : List ℕ → Next) (o : Next) → s ≡ c ∷ s1 → pick c s f o ≡ f s1
 pick_take c s s1 f o e = ap (λ l. pick c l f o) e ∙ cond-true (eqb c c) (f s1) o (eq-eqb c c refl)

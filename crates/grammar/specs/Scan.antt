@@ -1,5 +1,5 @@
 -- How a set is scanned, step by step, and what the scanning tells.
-use Rattle.std.specs.Prelude.{◌≡◌, ℕ, zero, suc, ◌+◌, ◌≤◌, max, Bool, true, false, cond, ◌&&◌, List, [], ◌∷◌, ◌++◌, length, Some, None, Option, ◌==◌, nat_lt}
+use Rattle.std.specs.Prelude.{◌≡◌, ℕ, zero, suc, ◌+◌, ◌≤◌, max, Bool, true, false, cond, ◌&&◌, List, [], ◌∷◌, length, Some, None, Option, ◌==◌, nat_lt}
 use Rattle.policy.specs.Sets.{UserSet, members, holders, only, nobody}
 use Rattle.grammar.specs.Text.{Read, got, none, number}
 use Rattle.grammar.specs.Phrase.{Kind, set, Phrase, meaning, levels, operands, in_range, static, roles_alone, Written, Ends}

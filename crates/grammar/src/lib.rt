@@ -1,4 +1,6 @@
 // How sets of users stand in text: words, numbers and signs, how far a set goes, and how large it is.
+#![tactic(auto)]
+
 mod grounds;
 mod reader;
 mod sizes;

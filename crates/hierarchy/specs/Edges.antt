@@ -1,5 +1,5 @@
 -- The edges that a hierarchy's table stands for, and the way that a descent goes down along them.
-use Rattle.std.specs.Prelude.{◌≡◌, ℕ, ◌<◌, Bool, true, false, not, ◌&&◌, ◌||◌, T, List, [], ◌∷◌, ◌++◌, length, take, drop, Ok, Err, Decides, Result, ◌==◌, nat_lt, slice_index_or}
+use Rattle.std.specs.Prelude.{◌≡◌, ◌<◌, false, not, ◌&&◌, ◌||◌, T, List, [], ◌∷◌, ◌++◌, length, take, drop, Ok, Err, Decides, Result, ◌==◌, nat_lt, slice_index_or}
 use Rattle.words.specs.Words.{with}
 use Rattle.steps.specs.declared.short.TooShort.{TooShort}
 use Rattle.steps.specs.declared.short.TooShort.TheVariants.{Words, Places}

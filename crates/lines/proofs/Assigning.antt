@@ -1,27 +1,27 @@
 -- `assign` lines: measured exactly, and their conditions built where they are small.
-use Rattle.std.proofs.Common.{◌≡◌, ℕ, ◌<◌, ◌≤◌, Bool, true, false, ◌&&◌, ltb, leb, List, [], ◌∷◌, ◌++◌, length, drop, Some, None, codes, decimal, Option, sym, refl, ap, ◌∙◌, subst, ap₂, append_assoc, arith, ltb-true, leb-true}
+use Rattle.std.proofs.Common.{◌≡◌, ℕ, ◌<◌, ◌≤◌, Bool, true, false, ◌&&◌, ltb, leb, List, ◌∷◌, ◌++◌, length, drop, Some, None, codes, decimal, Option, sym, refl, ap, ◌∙◌, subst, ap₂, append_assoc, arith, ltb-true, leb-true}
 use borrow.Author.Tests.{clash}
 use Rattle.std.proofs.lemmas.Bool.{and_parts}
 use Rattle.grammar.specs.declared.sizes.Size.{Size}
 use Rattle.grammar.specs.declared.grounds.Ground.{Ground}
 use Rattle.grammar.specs.declared.grounds.Ground.TheVariants.{Syntax}
-use Rattle.grammar.specs.Text.{begins, begins_digit, got, none, Takes}
-use Rattle.grammar.specs.Phrase.{Kind, set, Phrase, one, or, lone, and, a_role, a_permission, no_users, braces, parens, a_user, also, render, meaning, levels, operands, roles_alone, Written, Ends}
-use Rattle.grammar.specs.Scan.{size_of, Scanned}
+use Rattle.grammar.specs.Text.{begins, got, none, Takes}
+use Rattle.grammar.specs.Phrase.{Kind, set, Phrase, one, or, lone, and, a_role, a_permission, no_users, braces, parens, a_user, also, render, meaning, levels, operands, Written, Ends}
+use Rattle.grammar.specs.Scan.{Scanned}
 use Rattle.trees.specs.declared.nodes.Nodes.{Nodes}
-use Rattle.trees.specs.Reading.{listed, Built, NodesOf, Small}
+use Rattle.trees.specs.Reading.{listed, Built, Small}
 use Rattle.lines.specs.declared.parts.Names.{Names}
 use Rattle.lines.specs.declared.parts.Weight.{Weight}
 use Rattle.lines.specs.declared.parts.Assigned.{Assigned}
 use Rattle.lines.specs.declared.change.Extra.{Extra}
-use Rattle.lines.specs.Entries.{entries, AllShort, all_below, entry_at}
+use Rattle.lines.specs.Entries.{entries, entry_at}
 use Rattle.lines.specs.Lists.{Noted, Listed}
-use Rattle.lines.specs.Languages.{Says, Least, Unrefused, Told, judged}
-use Rattle.lines.specs.Bodies.{Row, roles_in, Clause, always_true, in_set, clause_bytes, ProperClause, clause_ranged, clause_small, Assigning, assigns}
+use Rattle.lines.specs.Languages.{Says, Least, Told, judged}
+use Rattle.lines.specs.Bodies.{roles_in, Clause, always_true, in_set, clause_bytes, ProperClause, clause_ranged, clause_small, Assigning, assigns}
 use Rattle.lines.specs.Lines.{Lists, Conditioned}
 use Rattle.lines.specs.Clauses.{weight_of, Clauses, Conditions, AssignedOf, Assigns, assigned_ground}
 use Rattle.lines.proofs.Entering.{entry_written, entry_read}
-use Rattle.lines.proofs.Judging.{Weighed, Verdict, syntax_least, verdict_is}
+use Rattle.lines.proofs.Judging.{Verdict, syntax_least, verdict_is}
 use Rattle.lines.proofs.Rowing.{some_is, no_some, none_got, got_is}
 
 -- ---- a condition

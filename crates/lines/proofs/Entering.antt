@@ -1,11 +1,11 @@
 -- An entry is read exactly where it is written.
-use Rattle.std.proofs.Common.{◌≡◌, ℕ, ◌+◌, ◌<◌, ◌≤◌, Bool, true, false, cond, eqb, List, [], ◌∷◌, ◌++◌, length, drop, decimal, sym, refl, ap, ◌∙◌, ⊎_elim, arith, length-append, length-drop, eq-eqb, ne_eqb, eqb-true}
+use Rattle.std.proofs.Common.{◌≡◌, ℕ, ◌+◌, ◌<◌, ◌≤◌, Bool, true, false, cond, eqb, List, [], ◌∷◌, ◌++◌, length, drop, decimal, sym, refl, ap, ◌∙◌, ⊎_elim, arith, length-append, eq-eqb, ne_eqb, eqb-true}
 use borrow.Author.Tests.{clash}
 use Rattle.std.proofs.lemmas.Bool.{cond-true, cond-false, cases_eq}
 use Rattle.std.proofs.lemmas.List.{drop_all, drop_more}
 use Rattle.grammar.specs.Text.{begins, begins_digit, Read, got, none, number}
 use Rattle.grammar.proofs.Numbers.{number_written, number_read}
-use Rattle.lines.specs.Entries.{entries, AllShort, is_nil, after, entry_at}
+use Rattle.lines.specs.Entries.{entries, is_nil, after, entry_at}
 
 pub after_take : (c : ℕ) (s s1 : List ℕ) (f : List ℕ → Read) → s ≡ c ∷ s1 → after c s f ≡ f s1
 after_take c s s1 f e = ap (λ l. after c l f) e ∙ cond-true (eqb c c) (f s1) none (eq-eqb c c refl)

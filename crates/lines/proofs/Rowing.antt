@@ -1,15 +1,15 @@
 -- Rows: read exactly, and refused by the smallest number.
-use Rattle.std.proofs.Common.{◌≡◌, ℕ, ◌<◌, ◌≤◌, Bool, true, false, not, ◌&&◌, ltb, List, [], ◌∷◌, ◌++◌, Some, None, decimal, Option, sym, refl, ap, ◌∙◌, subst, ap₂, arith}
+use Rattle.std.proofs.Common.{◌≡◌, ℕ, ◌<◌, ◌≤◌, Bool, true, false, not, ◌&&◌, ltb, List, [], ◌∷◌, ◌++◌, Some, None, decimal, sym, refl, ap, ◌∙◌, subst, ap₂, arith}
 use borrow.Author.Tests.{clash}
 use Rattle.std.proofs.lemmas.Bool.{lt-ltb, le-ltb}
-use Rattle.grammar.specs.Text.{begins, begins_digit, got, none, Takes}
+use Rattle.grammar.specs.Text.{begins_digit, got, none, Takes}
 use Rattle.grammar.specs.declared.grounds.Ground.TheVariants.{Syntax, Range}
 use Rattle.lines.specs.declared.parts.Row.{Row as Measured}
 use Rattle.lines.specs.declared.parts.Names.{Names}
 use Rattle.lines.specs.declared.change.Extra.{Extra}
-use Rattle.lines.specs.Entries.{entries, AllShort, all_below, entry_at}
+use Rattle.lines.specs.Entries.{entries, entry_at}
 use Rattle.lines.specs.Lists.{Noted, Listed, Users}
-use Rattle.lines.specs.Languages.{Language, Says, Least, Unrefused, Told}
+use Rattle.lines.specs.Languages.{Says, Least, Unrefused, Told}
 use Rattle.lines.specs.Bodies as B
 use Rattle.lines.specs.Bodies.{Row, roles_in, rows, users_in, trusts}
 use Rattle.lines.specs.Lines.{Lists, Trusts}

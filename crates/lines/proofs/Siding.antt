@@ -8,17 +8,17 @@ use Rattle.grammar.specs.declared.sizes.Size.{Size}
 use Rattle.grammar.specs.declared.grounds.Ground.{Ground}
 use Rattle.grammar.specs.declared.grounds.Ground.TheVariants.{Syntax}
 use Rattle.grammar.specs.Text.{begins, Takes}
-use Rattle.grammar.specs.Phrase.{render, meaning, levels, operands, in_range, static, Written, Ends}
+use Rattle.grammar.specs.Phrase.{render, meaning, levels, operands, in_range, Written}
 use Rattle.grammar.specs.Scan.{size_of, Scanned}
 use Rattle.trees.specs.declared.nodes.Nodes.{Nodes}
 use Rattle.trees.specs.Reading.{Built, NodesOf, Small}
 use Rattle.lines.specs.declared.parts.Sizes.{Sizes}
 use Rattle.lines.specs.declared.change.Extra.{Extra}
-use Rattle.lines.specs.Languages.{Says, Least, Unrefused, Told, judged}
+use Rattle.lines.specs.Languages.{Says, Least, Told, judged}
 use Rattle.lines.specs.Bodies.{Sides, sides}
 use Rattle.lines.specs.Lines.{Sided}
 use Rattle.lines.specs.Readings.{sizes_of, Measures, weighed, Builds}
-use Rattle.lines.proofs.Judging.{Weighed, Verdict, syntax_least, verdict_is}
+use Rattle.lines.proofs.Judging.{Verdict, syntax_least, verdict_is}
 use Rattle.lines.proofs.Rowing.{some_is, no_some}
 
 abbrev between : List ℕ

@@ -1,18 +1,18 @@
 -- Users of a list, one user longer.
-use Rattle.std.proofs.Common.{◌≡◌, ℕ, zero, suc, ◌+◌, ◌/◌, ◌%◌, ◌<◌, ◌≤◌, min, Bool, true, false, cond, ◌&&◌, ◌||◌, eqb, ltb, ◌⊎◌, List, [], ◌∷◌, ◌++◌, map, length, get_or, take, set, replicate, sym, refl, ap, ◌∙◌, subst, ap₂, inl, inr, ⊎_elim, append_assoc, arith, length-append, length-set}
+use Rattle.std.proofs.Common.{◌≡◌, ℕ, zero, suc, ◌+◌, ◌/◌, ◌%◌, ◌<◌, ◌≤◌, min, Bool, true, false, cond, ◌&&◌, ◌||◌, eqb, ltb, List, [], ◌∷◌, ◌++◌, map, length, get_or, take, set, replicate, sym, refl, ap, ◌∙◌, ap₂, ⊎_elim, arith, length-append, length-set}
 use mathlib.Core.Path.{fun_ext}
 use lib.ListN.{length-replicate}
 use borrow.Author.Tests.{clash}
-use Rattle.std.proofs.lemmas.Bool.{lt-ltb, le-ltb, cases_lt, cond-true, cond-false, and_parts}
+use Rattle.std.proofs.lemmas.Bool.{lt-ltb, le-ltb, cases_lt, cond-true, cond-false}
 use Rattle.std.proofs.lemmas.List.{take_more_set, take_all, map-append}
 use lib.Seq.{take-append-le}
 use Rattle.words.specs.Words.{bit, bits, with}
 use Rattle.words.proofs.Bits.{bit_none}
 use Rattle.rbac.specs.declared.users.User.{User}
 use Rattle.lines.specs.declared.change.Extra.{Extra}
-use Rattle.lines.specs.Entries.{all_below, named, repeats}
-use Rattle.lines.specs.Lists.{number_of, Users, Seen, kept}
-use Rattle.lines.proofs.Naming.{named_more, below_more, repeats_more, and_none, no_and}
+use Rattle.lines.specs.Entries.{all_below}
+use Rattle.lines.specs.Lists.{number_of, Seen, kept}
+use Rattle.lines.proofs.Naming.{named_more, below_more, repeats_more, no_and}
 
 never : (g : Bool) → (g && false) ≡ true → ⊥
 never g y = clash (sym (no_and g) ∙ y)

@@ -1,7 +1,7 @@
 -- Reading a list entry by entry, up to the end of the text.
-use Rattle.std.proofs.Common.{◌≡◌, ℕ, ◌+◌, ◌<◌, ◌≤◌, ◌⊎◌, List, [], ◌∷◌, ◌++◌, length, Some, None, decimal, Option, sym, refl, ap, ◌∙◌, subst, inl, inr, append_assoc, arith, length-append}
+use Rattle.std.proofs.Common.{◌≡◌, ℕ, ◌+◌, ◌<◌, ◌≤◌, ◌⊎◌, List, [], ◌∷◌, ◌++◌, length, Some, None, decimal, sym, refl, ap, ◌∙◌, subst, inl, inr, append_assoc, arith, length-append}
 use Rattle.std.proofs.lemmas.List.{append-nil}
-use Rattle.grammar.specs.Text.{Read, got, none}
+use Rattle.grammar.specs.Text.{got, none}
 use Rattle.lines.specs.Entries.{entries, AllShort, entry_at}
 use Rattle.lines.specs.Lists.{Listed}
 use Rattle.lines.proofs.Entering.{entry_written, entry_read, entries_first}

@@ -1,5 +1,5 @@
 -- What stands in a line behind its word, by shape.
-use Rattle.std.specs.Prelude.{◌≡◌, ℕ, ◌+◌, ◌<◌, max, Bool, true, false, ◌&&◌, ◌||◌, List, [], ◌∷◌, ◌++◌, codes, decimal, nat_le, nat_lt}
+use Rattle.std.specs.Prelude.{◌≡◌, ℕ, ◌+◌, ◌<◌, max, Bool, true, ◌&&◌, ◌||◌, List, ◌∷◌, ◌++◌, codes, decimal, nat_le, nat_lt}
 use Rattle.policy.specs.Measures as measures
 use Rattle.policy.specs.Rules.{Condition, everybody, in_role, both, either}
 use Rattle.policy.specs.Sets.{UserSet, members, holders, only, nobody, union, intersection}

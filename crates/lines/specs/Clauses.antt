@@ -1,7 +1,6 @@
 -- What the readers of conditions and of `assign` lines answer.
-use Rattle.std.specs.Prelude.{◌≡◌, ℕ, ◌≤◌, Bool, true, false, ◌&&◌, List, ◌++◌, length, drop, Some, None, codes, Option, nat_le, nat_lt}
+use Rattle.std.specs.Prelude.{◌≡◌, ℕ, ◌≤◌, Bool, true, false, ◌&&◌, List, ◌++◌, length, drop, Some, codes, Option, nat_le, nat_lt}
 use Rattle.grammar.specs.declared.grounds.Ground.{Ground}
-use Rattle.grammar.specs.declared.sizes.Size.{Size}
 use Rattle.grammar.specs.Phrase.{Ends}
 use Rattle.grammar.specs.Scan.{size_of, empty}
 use Rattle.lines.specs.declared.parts.Weight.{Weight}

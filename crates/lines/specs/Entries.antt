@@ -1,5 +1,5 @@
 -- Lists of numbers in a line: how they are written, and what they name.
-use Rattle.std.specs.Prelude.{◌≡◌, ℕ, ◌<◌, Bool, true, false, cond, ◌&&◌, ◌||◌, List, [], ◌∷◌, ◌++◌, decimal, ◌==◌, nat_lt}
+use Rattle.std.specs.Prelude.{ℕ, ◌<◌, Bool, true, false, cond, ◌&&◌, ◌||◌, List, [], ◌∷◌, ◌++◌, decimal, ◌==◌, nat_lt}
 use Rattle.grammar.specs.Text.{Read, none, number}
 
 -- each entry is a blank, a letter and a number

@@ -1,5 +1,5 @@
 -- Lines, questions and changes as they are written, and what they say.
-use Rattle.std.specs.Prelude.{◌≡◌, ℕ, Bool, true, false, ◌&&◌, List, [], ◌∷◌, ◌++◌, map, length, take, Ok, Err, codes, Result}
+use Rattle.std.specs.Prelude.{◌≡◌, ℕ, Bool, true, false, List, [], ◌++◌, map, length, take, Ok, Err, codes, Result}
 use Rattle.policy.specs.Measures as measures
 use Rattle.grammar.specs.Phrase.{meaning}
 use Rattle.grammar.specs.declared.grounds.Ground.{Ground}

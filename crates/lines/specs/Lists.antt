@@ -1,10 +1,9 @@
 -- What the readers of lists answer.
-use Rattle.std.specs.Prelude.{◌≡◌, ℕ, ◌<◌, Bool, true, cond, List, [], ◌∷◌, ◌++◌, map, length, take, Some, None, decimal, Option, nat_lt, slice_set}
+use Rattle.std.specs.Prelude.{◌≡◌, ℕ, Bool, true, cond, List, ◌∷◌, map, length, take, Some, Option, nat_lt, slice_set}
 use Rattle.words.specs.Words.{bits}
 use Rattle.rbac.specs.Roles.{roles_of}
 use Rattle.rbac.specs.declared.users.User.{User}
 use Rattle.lines.specs.declared.parts.Names.{Names}
-use Rattle.lines.specs.declared.parts.Row.{Row}
 use Rattle.lines.specs.declared.change.Extra.{Extra}
 use Rattle.lines.specs.Entries.{entries, AllShort, all_below, named, repeats}
 

@@ -1,5 +1,5 @@
 -- What the readers of a line's parts answer.
-use Rattle.std.specs.Prelude.{◌≡◌, ℕ, ◌+◌, max, Bool, true, false, ◌&&◌, ◌||◌, List, Some, None, Ok, Err, Option, Result, nat_le}
+use Rattle.std.specs.Prelude.{◌≡◌, ℕ, ◌+◌, max, Bool, true, ◌&&◌, ◌||◌, List, Some, Ok, Err, Option, Result, nat_le}
 use Rattle.lines.specs.declared.parts.Row.{Row as Measured}
 use Rattle.grammar.specs.declared.grounds.Ground.{Ground}
 use Rattle.grammar.specs.Scan.{size_of}

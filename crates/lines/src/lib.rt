@@ -1,4 +1,6 @@
 // Lines, changes and questions: read from text, or refused with the ground of the smallest number.
+#![tactic(auto)]
+
 mod change;
 mod keyword;
 mod parts;

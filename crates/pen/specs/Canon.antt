@@ -1,7 +1,7 @@
 -- The one way to write a set: only the parentheses that the reading needs, each user in its own braces.
-use Rattle.std.specs.Prelude.{◌≡◌, ℕ, ◌≤◌, true, List, ◌++◌}
+use Rattle.std.specs.Prelude.{◌≡◌, ℕ, ◌≤◌, true, List}
 use Rattle.policy.specs.Sets.{UserSet, members, holders, only, nobody, union, intersection}
-use Rattle.grammar.specs.Phrase.{Kind, set, term, factor, Phrase, one, or, lone, and, a_role, a_permission, no_users, braces, parens, a_user, render, meaning, levels, operands, in_range, Short, Written, Ends}
+use Rattle.grammar.specs.Phrase.{set, term, factor, Phrase, one, or, lone, and, a_role, a_permission, no_users, braces, parens, a_user, meaning, levels, in_range, Short, Written, Ends}
 use Rattle.trees.specs.Reading.{Small}
 
 -- as a set, as a term, as a factor: parentheses only where the reading needs them

@@ -1,4 +1,4 @@
-use Rattle.std.specs.Prelude.{◌≡◌, ℕ, ◌+◌, ◌≤◌, min, List, [], ◌∷◌, length, slice_set}
+use Rattle.std.specs.Prelude.{◌≡◌, ℕ, ◌+◌, min, List, [], ◌∷◌, slice_set}
 use Rattle.pen.specs.declared.writer.Writer.{Writer}
 
 abbrev pub top : ℕ
@@ -21,4 +21,4 @@ count i (b ∷ bs) = count (next i) bs
 pub record Wrote (v : Writer) (a : List ℕ) (w : Writer) : Type 0 where
   pub more : w.len ≡ count v.len a
   pub placed : w.place.now ≡ puts v.place.now v.len a
-  pub same : w.place.name ≡ v.place.name
+  pub same : w.place.ghost_name ≡ v.place.ghost_name

@@ -1,4 +1,6 @@
 // Writing into a lent place: bytes, numbers, lists, and sets in their one canonical form.
+#![tactic(auto)]
+
 mod spot;
 mod writer;
 

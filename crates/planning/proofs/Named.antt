@@ -1,6 +1,6 @@
 -- Users of rows in use, and users that nodes name.
-use Rattle.std.proofs.Common.{◌≡◌, ℕ, zero, suc, ◌+◌, ◌<◌, ◌≤◌, Bool, true, false, not, ◌&&◌, ◌||◌, T, eqb, ◌⊎◌, List, [], ◌∷◌, ◌++◌, length, get_or, take, drop, Some, Decides, sym, refl, ap, ◌∙◌, subst, ap₂, inl, inr, ⊎_elim, arith, eqb→eq, length-append}
-use mathlib.Core.Path.{subst⁻¹, fun_ext}
+use Rattle.std.proofs.Common.{◌≡◌, ℕ, ◌+◌, ◌<◌, ◌≤◌, Bool, true, false, not, ◌||◌, T, eqb, ◌⊎◌, List, [], ◌∷◌, ◌++◌, length, get_or, take, drop, Some, Decides, sym, refl, ap, ◌∙◌, subst, ap₂, inl, inr, ⊎_elim, arith, eqb→eq}
+use mathlib.Core.Path.{fun_ext}
 use lib.Dec.{eqb_refl}
 use Rattle.std.proofs.lemmas.List.{drop_more, drop_all, length-take-le, get_or-take}
 use Rattle.std.proofs.lemmas.Bool.{both_ways}

@@ -1,5 +1,5 @@
 -- What the plan's parts come to.
-use Rattle.std.proofs.Common.{◌≡◌, ℕ, zero, suc, ◌+◌, ◌<◌, ◌≤◌, Bool, true, false, not, ◌||◌, T, ◌⊎◌, List, [], ◌∷◌, ◌++◌, map, length, get_or, take, set, Decides, sym, refl, ap, ◌∙◌, subst, ap₂, inl, inr, ⊎_elim, add-one, arith, length-append, length-take, get_or-set_same}
+use Rattle.std.proofs.Common.{◌≡◌, ℕ, ◌+◌, ◌<◌, ◌≤◌, Bool, true, false, ◌||◌, T, ◌⊎◌, List, [], ◌∷◌, ◌++◌, map, length, get_or, take, set, Decides, ap, ◌∙◌, subst, ap₂, inl, inr, ⊎_elim, add-one, arith, length-take, get_or-set_same}
 use mathlib.Core.Path.{subst⁻¹}
 use lib.Seq.{take-set-le}
 use Rattle.policy.specs.Tests.{listed}
@@ -11,7 +11,6 @@ use Rattle.policy.specs.Hire.{named, names}
 use Rattle.policy.proofs.Tests.{either, or_left, or_right, as_true, as_test, listed_left, listed_right, listed_either}
 use Rattle.rbac.specs.declared.sets.RoleSet.{RoleSet}
 use Rattle.rbac.specs.declared.users.User.{User as AUser}
-use Rattle.rbac.specs.Roles.{roles_of}
 use Rattle.hierarchy.specs.Edges.{no_roles}
 use Rattle.tables.specs.declared.entries.AssignEntry.{AssignEntry}
 use Rattle.tables.specs.declared.tables.Tables.{Tables}

@@ -1,11 +1,10 @@
 -- Tables filled from their first place on, and the masks that come of it.
-use Rattle.std.proofs.Common.{◌≡◌, ℕ, zero, suc, ◌+◌, ◌<◌, ◌≤◌, Bool, true, false, ◌&&◌, ◌||◌, T, eqb, ltb, ◌≢◌, ◌⊎◌, ◌↔◌, List, length, get_or, set, Decides, sym, refl, ap, ◌∙◌, subst, ap₂, inl, inr, ⊎_elim, arith, eqb→eq, ltb→lt, lt→ltb, get_or-set_other, get_or-set_same}
+use Rattle.std.proofs.Common.{◌≡◌, ℕ, ◌+◌, ◌<◌, ◌≤◌, Bool, true, false, ◌&&◌, ◌||◌, T, eqb, ltb, ◌≢◌, ◌⊎◌, ◌↔◌, List, length, get_or, set, Decides, sym, refl, ap, ◌∙◌, subst, inl, inr, ⊎_elim, arith, eqb→eq, ltb→lt, lt→ltb, get_or-set_other, get_or-set_same}
 use mathlib.Core.Path.{subst⁻¹}
 use lib.Dec.{eqb_refl}
 use Rattle.std.proofs.lemmas.List.{get_or_past}
 use Rattle.std.proofs.lemmas.Bool.{cases_eq, cases_lt, both_ways}
 use Rattle.policy.specs.Membership.{Role, Permission, Senior, same, above}
-use Rattle.policy.specs.Rules.{Policy}
 use Rattle.policy.proofs.Tests.{agree, both, first, second, either, or_left, or_right, as_true, as_test}
 use Rattle.rbac.specs.declared.sets.RoleSet.{RoleSet}
 use Rattle.rbac.specs.Roles.{roles_of, of_either}

@@ -1,5 +1,5 @@
 -- What the rows of the tables say of the state.
-use Rattle.std.proofs.Common.{◌≡◌, ℕ, zero, suc, ◌+◌, ◌<◌, ◌≤◌, Bool, true, false, not, ◌&&◌, ◌||◌, T, eqb, ltb, ◌⊎◌, List, [], ◌∷◌, length, get_or, Decides, sym, refl, ap, ◌∙◌, subst, inl, inr, ⊎_elim, not-suc-le-zero, arith, eqb→eq, ltb→lt, lt→ltb}
+use Rattle.std.proofs.Common.{◌≡◌, ℕ, zero, suc, ◌+◌, ◌<◌, ◌≤◌, Bool, false, ◌&&◌, T, eqb, ltb, ◌⊎◌, List, [], ◌∷◌, length, Decides, sym, subst, inl, inr, ⊎_elim, not-suc-le-zero, arith, eqb→eq, ltb→lt, lt→ltb}
 use mathlib.Core.Path.{subst⁻¹, fun_ext}
 use lib.Dec.{eqb_refl}
 use Rattle.std.proofs.lemmas.Bool.{cases_eq, cases_lt, both_ways}
@@ -9,11 +9,7 @@ use Rattle.rbac.specs.Roles.{roles_of}
 use Rattle.tables.specs.declared.entries.Row.{Row}
 use Rattle.tables.specs.declared.tables.Tables.{Tables}
 use Rattle.tables.specs.View.{assigned, state_of}
-use Rattle.tables.specs.Valid.{no_row, row_at, Used, Clash}
-use Rattle.rbac.specs.declared.users.User.{User as AUser}
-use Rattle.deciding.specs.Delegates.{user_at}
-use Rattle.planning.specs.Seats.{seated}
-use Rattle.planning.proofs.Seating.{seated_at}
+use Rattle.tables.specs.Valid.{row_at, Used, Clash}
 
 pub assigned_at : (rows : List Row) (u r : ℕ) → T (assigned rows u r) → (j : ℕ) × (j < length rows) × ((row_at rows j).user.number ≡ u) × T (roles_of (row_at rows j).roles r)
 unfolding assigned

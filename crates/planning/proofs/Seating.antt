@@ -1,10 +1,10 @@
 -- Users in slots: one more of them.
-use Rattle.std.proofs.Common.{◌≡◌, ℕ, zero, suc, ◌+◌, ◌<◌, ◌≤◌, min, Bool, true, false, not, ◌&&◌, ◌||◌, T, eqb, ltb, ◌≢◌, ◌⊎◌, List, [], ◌∷◌, ◌++◌, map, length, get_or, take, set, sym, refl, ap, ◌∙◌, subst, ap₂, inl, inr, ⊎_elim, not-suc-le-zero, add-one, arith, eqb→eq, ltb→lt, lt→ltb, length-take, get_or-set_other, get_or-set_same, take-suc-set}
-use mathlib.Core.Path.{subst⁻¹, fun_ext}
+use Rattle.std.proofs.Common.{◌≡◌, ℕ, zero, suc, ◌+◌, ◌<◌, ◌≤◌, min, Bool, true, false, not, ◌||◌, T, eqb, ◌≢◌, List, [], ◌∷◌, ◌++◌, length, get_or, take, set, sym, refl, ap, ◌∙◌, subst, inl, inr, ⊎_elim, not-suc-le-zero, add-one, arith, eqb→eq, get_or-set_other, get_or-set_same, take-suc-set}
+use mathlib.Core.Path.{subst⁻¹}
 use lib.Dec.{eqb_refl}
 use Rattle.std.proofs.lemmas.List.{get_or-take, length-take-le}
 use Rattle.std.proofs.lemmas.Bool.{cases_eq, both_ways}
-use Rattle.policy.specs.Membership.{User, State}
+use Rattle.policy.specs.Membership.{State}
 use Rattle.policy.specs.Rules.{Policy}
 use Rattle.policy.proofs.Tests.{agree, either, or_left, or_right, as_true, as_test, as_false, deny}
 use Rattle.rbac.specs.declared.sets.RoleSet.{RoleSet}

@@ -1,5 +1,5 @@
 -- Masks that say who is senior to whom, and which roles give a permission.
-use Rattle.std.specs.Prelude.{ℕ, ◌<◌, T, ◌↔◌, List}
+use Rattle.std.specs.Prelude.{◌<◌, T, ◌↔◌, List}
 use Rattle.policy.specs.Measures.{roles}
 use Rattle.policy.specs.Membership.{Role, Permission, Senior}
 use Rattle.policy.specs.Rules.{Policy}

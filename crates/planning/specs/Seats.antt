@@ -1,5 +1,5 @@
 -- Users in their slots.
-use Rattle.std.specs.Prelude.{◌≡◌, ℕ, suc, ◌<◌, Bool, true, false, not, T, List, [], ◌∷◌, take, slice_index_or}
+use Rattle.std.specs.Prelude.{◌≡◌, ℕ, ◌<◌, Bool, false, not, T, List, [], ◌∷◌, take, slice_index_or}
 use Rattle.policy.specs.Measures.{users}
 use Rattle.policy.specs.Membership.{User, State}
 use Rattle.policy.specs.Rules.{Policy}

@@ -1,4 +1,6 @@
 // Who is looked at for a question, and the masks of roles that it is worked out with.
+#![tactic(auto)]
+
 mod plans;
 mod ranks;
 mod seats;

@@ -11,7 +11,7 @@ use Rattle.policy.specs.Bounds.{Holder, Measured}
 use Rattle.policy.specs.Requirements.{never, Stands}
 use Rattle.policy.specs.Granting.{FreeRows}
 use Rattle.policy.specs.Premises.{topped, PremisesMet}
-use Rattle.policy.specs.Worked.{assigned, board, no_edge, none_trusted, gives5, gives4, takes15, takes4, three, b1, b2, ◌≥◌}
+use Rattle.policy.specs.Worked.{board, no_edge, none_trusted, gives5, gives4, takes15, takes4, three, b1, b2, ◌≥◌}
 use Rattle.policy.proofs.Tests.{either}
 use Rattle.policy.proofs.Runs.{between}
 use Rattle.policy.proofs.Boards.{of_pairs, of_all, has_role, lawful, hiring, hiring_lawful, nobody_else, topped_above, topped_closed}

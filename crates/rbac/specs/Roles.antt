@@ -1,5 +1,5 @@
 -- The row of roles that a set of roles in one word stands for.
-use Rattle.std.specs.Prelude.{ℕ, Bool, true, false, not, ◌&&◌, ◌||◌, ◌==◌, nat_lt}
+use Rattle.std.specs.Prelude.{false, not, ◌&&◌, ◌||◌, ◌==◌, nat_lt}
 use Rattle.words.specs.Words.{bit}
 use Rattle.policy.specs.Measures.{roles}
 use Rattle.policy.specs.Membership.{Role, Row}

@@ -1,4 +1,6 @@
 // Prints a firmware shop's role hierarchy: each role, the roles it is senior to, and the edges by which they were found.
+#![tactic(auto)]
+
 mod shop;
 
 use hierarchy::{Descent, Edge, Hierarchy};

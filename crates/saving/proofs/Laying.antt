@@ -1,10 +1,9 @@
 -- The text of nodes that are a set's.
-use Rattle.std.proofs.Common.{◌≡◌, ℕ, ◌-◌, true, false, List, take, drop, Some, None, codes, sym, refl, ap, ◌∙◌, arith}
+use Rattle.std.proofs.Common.{◌≡◌, ◌-◌, true, false, take, drop, codes, sym, ap, ◌∙◌, arith}
 use Rattle.std.proofs.lemmas.Bool.{cond-true, cond-false}
 use Rattle.lines.specs.declared.change.Extra.{Extra}
 use Rattle.policy.specs.Sets.{UserSet}
 use Rattle.grammar.specs.Phrase.{render}
-use Rattle.trees.specs.declared.nodes.Node.{Node}
 use Rattle.trees.specs.declared.nodes.Nodes.{Nodes}
 use Rattle.trees.specs.Reading.{postfix, listed}
 use Rattle.trees.specs.Trees.{decode}

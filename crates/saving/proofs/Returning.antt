@@ -1,17 +1,14 @@
 -- The canonical text of a line says what the line says, and nothing refuses it.
-use Rattle.std.proofs.Common.{◌≡◌, ℕ, ◌+◌, ◌-◌, ◌≤◌, min, max, Bool, true, false, cond, ◌&&◌, ◌||◌, ltb, leb, List, [], ◌∷◌, ◌++◌, map, length, take, Some, Ok, Err, codes, decimal, Result, sym, refl, ap, ◌∙◌, subst, ap₂, arith, le-leb, leb-true}
+use Rattle.std.proofs.Common.{◌≡◌, ℕ, ◌+◌, ◌-◌, ◌≤◌, min, max, true, ◌&&◌, ◌||◌, ltb, leb, List, [], ◌∷◌, ◌++◌, map, length, take, Some, Ok, Err, codes, decimal, Result, sym, refl, ap, ◌∙◌, ap₂, arith, le-leb, leb-true}
 use borrow.Author.Tests.{clash}
-use Rattle.std.proofs.lemmas.Bool.{and_parts, and_from, cond-true, cond-false}
+use Rattle.std.proofs.lemmas.Bool.{and_parts, and_from}
 use Rattle.std.proofs.lemmas.List.{take_all}
 use Rattle.grammar.specs.declared.grounds.Ground.{Ground}
 use Rattle.grammar.specs.declared.grounds.Ground.TheVariants.{Syntax, Range, Measure, NotSemiStatic}
 use Rattle.lines.specs.Languages.{Fails}
-use Rattle.policy.specs.Rules.{Condition}
-use Rattle.policy.specs.Sets.{UserSet}
-use Rattle.grammar.specs.Phrase.{set, Phrase, render, meaning, levels, operands, in_range, static, roles_alone, Short}
+use Rattle.grammar.specs.Phrase.{set, Phrase, meaning, levels, operands, in_range, static, roles_alone, Short}
 use Rattle.rbac.specs.Roles.{roles_of}
 use Rattle.rbac.specs.declared.sets.RoleSet.{RoleSet}
-use Rattle.trees.specs.Reading.{listed, postfix}
 use Rattle.lines.specs.declared.change.Change.{Change}
 use Rattle.lines.specs.declared.change.Extra.{Extra}
 use Rattle.lines.specs.declared.keyword.Keyword.{Keyword}
@@ -21,7 +18,6 @@ use Rattle.lines.specs.Lists.{number_of}
 use Rattle.lines.specs.Bodies as B
 use Rattle.lines.specs.Bodies.{Row, roles_in, users_in, Clause, always_true, in_set, clause_bytes, ProperClause, clause_ranged, clause_small, condition_of, condition, Assigning, Sides}
 use Rattle.lines.specs.Lines.{bodies, Sentence, lines, Line, Conditioned, Sided, Lists, Trusts, Means, says_ua, says_pa, says_rh, says_trust, says_assign, says_revoke, says_always, says_never}
-use Rattle.pen.specs.Ascending.{ascending}
 use Rattle.pen.specs.Canon.{as_set}
 use Rattle.pen.proofs.Canonical.{canonical}
 use Rattle.saving.specs.Canonical as S

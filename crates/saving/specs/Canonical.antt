@@ -1,10 +1,9 @@
 -- The one canonical text of a line, from its change and what lies beside it.
-use Rattle.std.specs.Prelude.{◌≡◌, ℕ, ◌<◌, ◌≤◌, min, Bool, true, false, cond, List, [], ◌∷◌, ◌++◌, map, length, take, drop, Some, None, codes, decimal, Option}
+use Rattle.std.specs.Prelude.{◌≡◌, ℕ, ◌<◌, ◌≤◌, min, false, cond, List, [], ◌++◌, map, length, take, drop, Some, None, codes, decimal, Option}
 use Rattle.policy.specs.Sets.{UserSet}
 use Rattle.grammar.specs.Phrase.{render}
 use Rattle.rbac.specs.Roles.{roles_of}
 use Rattle.rbac.specs.declared.sets.RoleSet.{RoleSet}
-use Rattle.trees.specs.declared.nodes.Node.{Node}
 use Rattle.trees.specs.declared.nodes.Nodes.{Nodes}
 use Rattle.trees.specs.Reading.{postfix, listed}
 use Rattle.trees.specs.Trees.{decode}

@@ -9,7 +9,6 @@ use Rattle.lines.specs.declared.change.Extra.{Extra}
 use Rattle.lines.specs.declared.keyword.Keyword.{Keyword}
 use Rattle.lines.specs.declared.keyword.Keyword.TheVariants.{Ua, Pa, Rh, Trust, Assign, Revoke, Always, Never, Possible, Necessary}
 use Rattle.lines.specs.Entries.{named}
-use Rattle.lines.specs.Languages.{Says}
 use Rattle.lines.specs.Bodies.{roles_in, users_in, condition}
 use Rattle.lines.specs.Lines.{bodies, Sentence, lines, Means}
 use Rattle.saving.specs.Canonical.{canonical}

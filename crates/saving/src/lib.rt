@@ -1,2 +1,4 @@
 // The one canonical text of each line.
+#![tactic(auto)]
+
 pub mod line;

@@ -13,7 +13,7 @@ pub fn close<S: StepSystem>(
     facts: &mut [u64],
     list: &mut [S::Record],
 ) -> Result<usize, TooShort>
-    ensures { Closes (means system.now) facts.old list.old result facts.new list.new }
+    ensures { Closes (S.means system.now) facts.old list.old result facts.new list.new }
 {
     let all = system.facts();
     if facts.len() < all.div_ceil(64) {
@@ -27,9 +27,9 @@ pub fn close<S: StepSystem>(
 
 // Passes over the steps, from one worth a try to the next, until a pass takes none.
 fn passes<S: StepSystem>(system: &S, facts: &mut [u64], list: &mut [S::Record]) -> usize
-    requires words { (means system.now).facts ≤ 64 * length facts.old }
-    requires places { (means system.now).facts ≤ length list.old }
-    ensures { Closed (means system.now) (bits facts.old) list.old result (bits facts.new) list.new }
+    requires words { (S.means system.now).facts ≤ 64 * length facts.old }
+    requires places { (S.means system.now).facts ≤ length list.old }
+    ensures { Closed (S.means system.now) (bits facts.old) list.old result (bits facts.new) list.new }
 {
     let steps = system.steps();
     let mut taken = 0;
@@ -56,10 +56,10 @@ fn attempt<S: StepSystem>(
     list: &mut [S::Record],
     place: usize,
 ) -> bool
-    requires step { step < (means system.now).steps }
-    requires words { (means system.now).facts ≤ 64 * length facts.old }
-    requires room { bits facts.old ((means system.now).makes step) ≡ false → place < length list.old }
-    ensures { Tried (means system.now) step place (bits facts.old) list.old result (bits facts.new) list.new }
+    requires step { step < (S.means system.now).steps }
+    requires words { (S.means system.now).facts ≤ 64 * length facts.old }
+    requires room { bits facts.old ((S.means system.now).makes step) ≡ false → place < length list.old }
+    ensures { Tried (S.means system.now) step place (bits facts.old) list.old result (bits facts.new) list.new }
 {
     let fact = system.makes(step);
     if has(facts, fact) {

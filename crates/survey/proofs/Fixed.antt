@@ -1,5 +1,5 @@
 -- The test of a set that holds no role and no permission decides just that.
-use Rattle.std.proofs.Common.{◌≡◌, Bool, true, false, ◌||◌, ◌⊎◌, Decides, refl, ◌∙◌, inl, inr, ⊎_elim}
+use Rattle.std.proofs.Common.{◌≡◌, Bool, true, false, ◌||◌, ◌⊎◌, Decides, refl, inl, inr, ⊎_elim}
 use borrow.Author.Tests.{clash}
 use Rattle.std.proofs.lemmas.Bool.{and_parts, and_from, or_left, or_right}
 use Rattle.policy.specs.Sets.{UserSet, members, holders, only, nobody, union, intersection, Static, SemiStatic}

@@ -1,4 +1,6 @@
 // Whole board texts: the regime, or the first fault.
+#![tactic(auto)]
+
 ghost use Rattle.std.specs.Prelude.{◌≡◌, Decides};
 ghost use Rattle.policy.specs.Sets.{SemiStatic};
 ghost use Rattle.lines.specs.Bodies.{Sides, sides};

@@ -1,27 +1,13 @@
 -- What one changed row does to the state, and to users having one row each.
-use Rattle.std.proofs.Common.{◌≡◌, ℕ, zero, suc, ◌<◌, ◌≤◌, Bool, true, false, not, ◌&&◌, ◌||◌, T, eqb, ltb, ◌≢◌, ◌⊎◌, List, [], ◌∷◌, map, length, get_or, set, sym, refl, ap, ◌∙◌, subst, inl, inr, ⊎_elim, not-suc-le-zero, arith, eqb→eq, lt→ltb, length-set, get_or-set_other, get_or-set_same}
-use mathlib.Core.Path.{subst⁻¹, fun_ext}
-use lib.Dec.{eqb_refl}
-use Rattle.std.proofs.lemmas.Bool.{cases_eq, both_ways, eqb-true, and_parts, and_from, eq-eqb}
-use Rattle.words.specs.Words.{with}
-use Rattle.policy.specs.Membership.{State}
-use Rattle.policy.specs.Bounds.{Holder}
-use Rattle.policy.specs.Granting.{FreeRow, Holders}
-use Rattle.policy.specs.Granting.{Apart as ApartUsers}
+use Rattle.std.proofs.Common.{◌≡◌, ℕ, ◌<◌, not, ◌&&◌, ◌||◌, T, ◌≢◌, ◌⊎◌, List, length, set, sym, ap, ◌∙◌, subst, inl, inr, ⊎_elim, arith, length-set, get_or-set_other, get_or-set_same}
+use mathlib.Core.Path.{subst⁻¹}
+use Rattle.std.proofs.lemmas.Bool.{cases_eq}
 use Rattle.policy.specs.Runs.{pair}
-use Rattle.policy.specs.Tests.{listed}
-use Rattle.policy.proofs.Tests.{either, or_left, or_right, first, second, both, deny, clash, agree, as_true, as_test, is_it, it_is}
-use Rattle.policy.proofs.Turns.{free_row}
-use Rattle.rbac.specs.declared.users.User.{User}
-use Rattle.rbac.specs.declared.roles.Role.{Role}
-use Rattle.rbac.specs.Roles.{roles_of, without}
+use Rattle.policy.proofs.Tests.{either, or_left, or_right, first, second, both, deny, agree, is_it}
 use Rattle.tables.specs.declared.entries.Row.{Row}
-use Rattle.tables.specs.declared.rows.RowChange.TheVariants.{Give, Take}
-use Rattle.tables.specs.declared.tables.Tables.{Tables}
-use Rattle.tables.specs.View.{assigned, state_of}
+use Rattle.tables.specs.View.{assigned}
 use Rattle.tables.specs.Valid.{row_at, no_row, Used, Clash}
-use Rattle.tables.specs.Rows.{is_used, is_of, with_rows, Changed, Lent, Apart, plus, minus, Done, Full, Unassigned}
-use Rattle.tables.proofs.Placing.{says, assigned_gives, assigned_at, used_gives, gives_used}
+use Rattle.tables.proofs.Placing.{says, assigned_gives, assigned_at}
 
 module _ (rows : List Row) (i : ℕ) (x : Row) (lt : i < length rows) where
   pub here : row_at (set rows i x) i ≡ x

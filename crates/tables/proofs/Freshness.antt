@@ -1,13 +1,12 @@
 -- What the tables of a new board say.
-use Rattle.std.proofs.Common.{◌≡◌, ℕ, zero, suc, ◌<◌, ◌≤◌, Bool, true, false, ◌&&◌, ◌||◌, T, eqb, ltb, List, [], ◌∷◌, map, length, get_or, replicate, sym, refl, ap, ◌∙◌, subst, ⊎_elim, arith}
+use Rattle.std.proofs.Common.{◌≡◌, ℕ, zero, suc, ◌<◌, ◌≤◌, Bool, true, false, ◌&&◌, ◌||◌, T, eqb, ltb, List, [], map, length, get_or, replicate, refl, ap, ◌∙◌, subst, ⊎_elim, arith}
 use mathlib.Core.Path.{subst⁻¹, fun_ext}
 use lib.ListN.{get_or-replicate, length-replicate}
 use Rattle.std.proofs.lemmas.List.{get_or_past}
 use Rattle.std.proofs.lemmas.Bool.{cases_lt}
-use Rattle.words.specs.Words.{bit}
 use Rattle.words.proofs.Bits.{bit_none}
 use Rattle.policy.specs.Membership.{Edges}
-use Rattle.policy.specs.Rules.{AssignRule, RevokeRule, Policy, aatu, aar, Nth}
+use Rattle.policy.specs.Rules.{AssignRule, RevokeRule, Policy, aatu, Nth}
 use Rattle.policy.specs.Rules.{Regime as RegimeMeant}
 use Rattle.policy.specs.declared.terms.Regime.TheVariants.{Aatu as aatu_here}
 use Rattle.rbac.specs.declared.sets.RoleSet.{RoleSet}

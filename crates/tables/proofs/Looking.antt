@@ -1,17 +1,17 @@
 -- The row that is found is the user's part of the state.
-use Rattle.std.proofs.Common.{◌≡◌, ℕ, ◌<◌, ◌≤◌, Bool, true, false, not, ◌&&◌, ◌||◌, T, eqb, ltb, ◌≢◌, ◌⊎◌, length, Decides, sym, refl, ap, ◌∙◌, subst, inl, inr, ⊎_elim, arith, eqb→eq, lt→ltb}
+use Rattle.std.proofs.Common.{◌≡◌, ℕ, ◌<◌, ◌≤◌, Bool, true, false, ◌&&◌, T, eqb, ltb, length, Decides, sym, ◌∙◌, subst, ⊎_elim, arith, eqb→eq, lt→ltb}
 use mathlib.Core.Path.{subst⁻¹, fun_ext}
 use Rattle.std.proofs.lemmas.Bool.{cases_eq, cases_lt, eq-eqb}
-use Rattle.policy.specs.Membership.{Member, Row, Edges}
+use Rattle.policy.specs.Membership.{Member}
 use Rattle.policy.specs.Sets.{HasPermission}
-use Rattle.policy.proofs.Tests.{first, second, both, agree, as_true, as_test, deny}
+use Rattle.policy.proofs.Tests.{first, second, both, agree, as_true, as_test}
 use Rattle.rbac.specs.declared.sets.RoleSet.{RoleSet}
 use Rattle.rbac.specs.Roles.{roles_of, no_role}
 use Rattle.tables.specs.declared.tables.Tables.{Tables}
 use Rattle.tables.specs.View.{assigned, state_of, policy_of}
-use Rattle.tables.specs.Valid.{row_at, Used}
+use Rattle.tables.specs.Valid.{row_at}
 use Rattle.tables.specs.Rows.{is_of, Apart}
-use Rattle.tables.proofs.Placing.{says, assigned_gives, assigned_at}
+use Rattle.tables.proofs.Placing.{assigned_gives, assigned_at}
 use Rattle.tables.proofs.Rowing.{of_used, not_of, holder_gives}
 
 pub row_found : (t : Tables) (i u : ℕ) → i < length t.rows → u < 65536 → is_of u (row_at t.rows i) ≡ true → Apart t → roles_of (row_at t.rows i).roles ≡ state_of t u

@@ -1,12 +1,12 @@
 -- The roles that entries name, gathered one entry after another.
-use Rattle.std.proofs.Common.{◌≡◌, ℕ, suc, ◌+◌, ◌<◌, ◌≤◌, Bool, true, false, not, ◌&&◌, ◌||◌, T, eqb, ltb, ◌⊎◌, List, [], ◌∷◌, map, length, get_or, take, Decides, sym, refl, ap, ◌∙◌, subst, inl, inr, ⊎_elim, arith, eqb→eq}
+use Rattle.std.proofs.Common.{◌≡◌, ℕ, ◌+◌, ◌<◌, Bool, true, false, ◌||◌, T, eqb, List, map, length, get_or, take, Decides, sym, refl, ap, ◌∙◌, eqb→eq}
 use mathlib.Core.Path.{subst⁻¹}
 use lib.Dec.{eqb_refl}
 use Rattle.std.proofs.lemmas.Bool.{eq-eqb}
 use Rattle.policy.specs.Rules.{AssignRule, RevokeRule, Nth}
 use Rattle.policy.proofs.Numbered.{at_nth}
 use Rattle.policy.proofs.Numbered.{nth_at as nth_place}
-use Rattle.policy.proofs.Tests.{first, second, both, as_true, as_test}
+use Rattle.policy.proofs.Tests.{second, both, as_true, as_test}
 use Rattle.rbac.specs.Roles.{roles_of}
 use Rattle.tables.specs.declared.entries.AssignEntry.{AssignEntry}
 use Rattle.tables.specs.declared.entries.RevokeEntry.{RevokeEntry}
@@ -14,10 +14,10 @@ use Rattle.tables.specs.declared.entries.Row.{Row}
 use Rattle.tables.specs.declared.regime.Named.{Named}
 use Rattle.tables.specs.Named.{OfAssigns, OfRevokes}
 use Rattle.tables.specs.View.{assigned, assign_of, revoke_of}
-use Rattle.tables.specs.Valid.{row_at, no_row, Used}
+use Rattle.tables.specs.Valid.{row_at, no_row}
 use Rattle.tables.specs.Rows.{is_used}
 use Rattle.tables.proofs.Listing.{any, any_gives, any_at, any_more, nth_map, map_nth}
-use Rattle.tables.proofs.Placing.{says, assigned_gives, assigned_at, used_gives, gives_used}
+use Rattle.tables.proofs.Placing.{assigned_gives, assigned_at, gives_used}
 
 -- one entry more is counted
 pub counted : {A : Type 0} (f : A → ℕ → Bool) (xs : List A) (i : ℕ) (x : A) → i < length xs → x ≡ get_or xs i x → (before after : ℕ → Bool)

@@ -1,5 +1,5 @@
 -- The regime's properties, from the sets of roles that they speak of.
-use Rattle.std.proofs.Common.{◌≡◌, ℕ, ◌<◌, Bool, true, false, not, ◌&&◌, ◌||◌, T, eqb, ltb, ◌⊎◌, List, [], ◌∷◌, map, length, Decides, sym, refl, ap, ◌∙◌, subst, inl, inr, ⊎_elim, lt→ltb}
+use Rattle.std.proofs.Common.{◌≡◌, ℕ, ◌<◌, Bool, true, false, not, ◌&&◌, ◌||◌, T, eqb, ltb, List, [], ◌∷◌, map, length, Decides, sym, refl, ap, ◌∙◌, subst, inl, inr, ⊎_elim, lt→ltb}
 use mathlib.Core.Path.{subst⁻¹}
 use lib.Dec.{eqb_refl}
 use lib.ListN.{length-map}
@@ -10,7 +10,7 @@ use Rattle.policy.specs.Rules.{Policy, aatu, aar}
 use Rattle.policy.specs.Rules.{Regime as RegimeMeant}
 use Rattle.policy.specs.declared.terms.Regime.TheVariants.{Aatu as aatu_here, Aar as aar_here}
 use Rattle.policy.specs.Regimes.{Administers, Assignable, Revocable, AdminsAreNoTargets, AdminsAreAssigned, AssignableIsRevocable, Aatu, Aar, Regular}
-use Rattle.policy.proofs.Tests.{either, or_left, or_right, clash, first, second, both, as_true, as_test}
+use Rattle.policy.proofs.Tests.{either, or_left, or_right, clash, second, both, as_true, as_test}
 use Rattle.rbac.specs.declared.sets.RoleSet.{RoleSet}
 use Rattle.rbac.specs.declared.users.User.{User}
 use Rattle.rbac.specs.Roles.{roles_of, of_either}

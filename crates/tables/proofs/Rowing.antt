@@ -1,25 +1,24 @@
 -- Assigning and taking a role by one row.
-use Rattle.std.proofs.Common.{◌≡◌, ℕ, zero, suc, ◌<◌, ◌≤◌, Bool, true, false, not, ◌&&◌, ◌||◌, T, eqb, ltb, ◌≢◌, ◌⊎◌, List, [], ◌∷◌, map, length, get_or, set, sym, refl, ap, ◌∙◌, subst, ap₂, inl, inr, ⊎_elim, not-suc-le-zero, arith, eqb→eq, lt→ltb, length-set}
+use Rattle.std.proofs.Common.{◌≡◌, ℕ, zero, suc, ◌<◌, ◌≤◌, Bool, true, false, not, ◌&&◌, ◌||◌, T, eqb, ltb, ◌≢◌, ◌⊎◌, List, [], ◌∷◌, map, length, set, sym, refl, ap, ◌∙◌, subst, ap₂, inl, inr, ⊎_elim, not-suc-le-zero, arith, eqb→eq, lt→ltb, length-set}
 use mathlib.Core.Path.{subst⁻¹, fun_ext}
 use lib.Dec.{eqb_refl}
 use Rattle.std.proofs.lemmas.Bool.{cases_eq, cases_lt, both_ways, and_parts, and_from, eq-eqb, eqb-true}
-use Rattle.words.specs.Words.{with}
 use Rattle.policy.specs.Bounds.{Holder}
 use Rattle.policy.specs.Granting.{FreeRow, Holders}
 use Rattle.policy.specs.Granting.{Apart as ApartUsers}
 use Rattle.policy.specs.Runs.{pair}
 use Rattle.policy.specs.Tests.{listed}
-use Rattle.policy.proofs.Tests.{either, or_left, or_right, first, second, both, deny, clash, agree, as_true, as_test, is_it, it_is}
+use Rattle.policy.proofs.Tests.{either, or_left, or_right, first, second, both, deny, as_test, is_it}
 use Rattle.policy.proofs.Turns.{free_row}
 use Rattle.rbac.specs.declared.users.User.{User}
 use Rattle.rbac.specs.declared.roles.Role.{Role}
-use Rattle.rbac.specs.Roles.{roles_of, without}
+use Rattle.rbac.specs.Roles.{roles_of}
 use Rattle.tables.specs.declared.entries.Row.{Row}
 use Rattle.tables.specs.declared.rows.RowChange.TheVariants.{Give, Take}
 use Rattle.tables.specs.declared.tables.Tables.{Tables}
 use Rattle.tables.specs.View.{assigned, state_of}
 use Rattle.tables.specs.Valid.{row_at, Used, Clash}
-use Rattle.tables.specs.Rows.{is_used, is_of, with_rows, Changed, Lent, Apart, plus, minus, Done, Full, Unassigned}
+use Rattle.tables.specs.Rows.{is_used, is_of, with_rows, Changed, Apart, plus, minus, Done, Full, Unassigned}
 use Rattle.tables.proofs.Placing.{says, assigned_gives, assigned_at, used_gives, gives_used}
 use Rattle.tables.proofs.Assigning.{here, there, one_more, one_less, still_apart}
 

@@ -3,16 +3,14 @@ use Rattle.std.proofs.Common.{◌≡◌, ℕ, ◌<◌, Bool, true, false, not, �
 use mathlib.Core.Path.{subst⁻¹}
 use lib.Dec.{eqb_refl}
 use Rattle.std.proofs.lemmas.Bool.{both_ways}
-use Rattle.policy.specs.Membership.{State}
 use Rattle.policy.specs.Rules.{Policy, aatu, aar}
 use Rattle.policy.specs.Rules.{Regime as RegimeMeant}
 use Rattle.policy.specs.Reach.{revocable}
-use Rattle.policy.specs.Regimes.{Aatu, Aar, Regular, Revocable}
+use Rattle.policy.specs.Regimes.{Revocable}
 use Rattle.policy.specs.Sets.{UserSet}
 use Rattle.policy.proofs.Numbered.{at_nth, nth_at, revocable_gives, gives_revocable}
-use Rattle.policy.proofs.Tests.{decide, clash, first, second, both}
+use Rattle.policy.proofs.Tests.{first, second, both}
 use Rattle.rbac.specs.Roles.{roles_of}
-use Rattle.trees.specs.declared.nodes.Nodes.{Nodes}
 use Rattle.trees.specs.Reading.{listed, postfix}
 use Rattle.trees.specs.Trees.{decode}
 use Rattle.trees.proofs.Whole.{inverse}
@@ -24,7 +22,7 @@ use Rattle.tables.specs.View.{assigned, state_of, policy_of}
 use Rattle.tables.specs.Valid.{row_at, no_row, Whole, Sound}
 use Rattle.tables.specs.Checks.{only_roles}
 use Rattle.tables.proofs.Listing.{any, any_gives, any_at}
-use Rattle.tables.proofs.Placing.{says, assigned_gives, assigned_at}
+use Rattle.tables.proofs.Placing.{assigned_gives, assigned_at}
 use Rattle.tables.proofs.Regular.{asked}
 use Rattle.tables.proofs.Wholeness.{alone_is}
 

@@ -1,6 +1,5 @@
 -- The parts of the policy that the tables say, as lists of their entries.
-use Rattle.std.proofs.Common.{◌≡◌, List, map, refl}
-use Rattle.policy.specs.Rules.{Regime as RegimeMeant}
+use Rattle.std.proofs.Common.{◌≡◌, map, refl}
 use Rattle.tables.specs.declared.tables.Tables.{Tables}
 use Rattle.tables.specs.Entries.{entries}
 use Rattle.tables.specs.View.{policy_of, assign_of, revoke_of, meant, names}

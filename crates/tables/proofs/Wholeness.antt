@@ -1,10 +1,9 @@
 -- Nodes of roles alone.
-use Rattle.std.proofs.Common.{◌≡◌, ℕ, zero, suc, ◌<◌, ◌≤◌, Bool, true, false, ◌&&◌, ltb, List, [], ◌∷◌, ◌++◌, length, get_or, take, Decides, sym, refl, ap, ◌∙◌, subst, ap₂, not-suc-le-zero, arith}
-use mathlib.Core.Path.{subst⁻¹}
-use Rattle.std.proofs.lemmas.Bool.{and_from, and_left, and_right, and_parts, both_ways}
+use Rattle.std.proofs.Common.{◌≡◌, ℕ, zero, suc, ◌<◌, ◌≤◌, Bool, true, false, ◌&&◌, ltb, List, [], ◌∷◌, ◌++◌, length, get_or, take, Decides, sym, refl, ap, ◌∙◌, ap₂, not-suc-le-zero, arith}
+use Rattle.std.proofs.lemmas.Bool.{and_from, and_left, and_right}
 use Rattle.policy.specs.Sets.{UserSet, members, holders, only, nobody, union, intersection}
 use Rattle.trees.specs.declared.nodes.Node.{Node}
-use Rattle.trees.specs.declared.nodes.Node.TheVariants.{Role, Permission, User, Nobody, Or, And}
+use Rattle.trees.specs.declared.nodes.Node.TheVariants.{Or, And}
 use Rattle.trees.specs.declared.nodes.Nodes.{Nodes}
 use Rattle.trees.specs.Reading.{listed, postfix}
 use Rattle.tables.specs.Valid.{roles_alone}

@@ -1,7 +1,7 @@
 -- What happens to the rows when one of them is changed, and to the state that they say.
-use Rattle.std.specs.Prelude.{◌≡◌, ℕ, ◌<◌, Bool, true, false, not, ◌&&◌, ◌||◌, T, List, length, MatchBool, Option, MatchOption, ◌==◌, slice_set}
+use Rattle.std.specs.Prelude.{◌≡◌, ℕ, ◌<◌, Bool, true, false, not, ◌&&◌, ◌||◌, List, MatchBool, Option, MatchOption, ◌==◌, slice_set}
 use Rattle.words.specs.Words.{with}
-use Rattle.policy.specs.Measures.{rows, roles}
+use Rattle.policy.specs.Measures.{roles}
 use Rattle.policy.specs.Membership.{State}
 use Rattle.policy.specs.Membership.{User as UserNumber, Role as RoleNumber}
 use Rattle.policy.specs.Bounds.{Holder}

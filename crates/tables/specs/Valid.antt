@@ -1,5 +1,5 @@
 -- What the tables of every board keep: no user has two rows, conditions are sets of roles, and the regime's properties hold.
-use Rattle.std.specs.Prelude.{◌≡◌, ℕ, ◌<◌, Bool, true, false, ◌&&◌, T, List, [], ◌∷◌, length, nat_lt, slice_index_or}
+use Rattle.std.specs.Prelude.{◌≡◌, ℕ, ◌<◌, Bool, true, false, ◌&&◌, T, List, length, nat_lt, slice_index_or}
 use Rattle.policy.specs.Measures.{roles}
 use Rattle.policy.specs.Membership.{Role}
 use Rattle.policy.specs.Rules.{Nth}

@@ -1,5 +1,5 @@
 -- What the tables say: a state, a policy and standing requirements, in the words of the meaning. Everything above the tables speaks of these alone.
-use Rattle.std.specs.Prelude.{ℕ, Bool, true, false, not, ◌&&◌, ◌||◌, List, [], ◌∷◌, map, Some, None, Option, ◌==◌, nat_lt, slice_index_or}
+use Rattle.std.specs.Prelude.{ℕ, Bool, false, ◌&&◌, ◌||◌, List, [], ◌∷◌, map, Some, None, Option, ◌==◌, nat_lt, slice_index_or}
 use Rattle.policy.specs.Measures.{users, roles}
 use Rattle.policy.specs.Membership.{State}
 use Rattle.policy.specs.Rules.{Condition, everybody, in_role, both, either, AssignRule, RevokeRule, Policy}
@@ -8,7 +8,6 @@ use Rattle.policy.specs.Sets.{UserSet, members, holders, only, nobody, union, in
 use Rattle.policy.specs.Requirements.{Requirement, always, never}
 use Rattle.policy.specs.declared.terms.Regime.{Regime}
 use Rattle.policy.specs.declared.terms.Regime.TheVariants.{Aatu, Aar}
-use Rattle.rbac.specs.declared.sets.RoleSet.{RoleSet}
 use Rattle.rbac.specs.declared.users.User.{User}
 use Rattle.rbac.specs.Roles.{roles_of}
 use Rattle.hierarchy.specs.Edges.{edges_of, no_roles}

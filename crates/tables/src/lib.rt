@@ -1,4 +1,6 @@
 // What a board holds, in plain tables of fixed size, and the meaning of it.
+#![tactic(auto)]
+
 mod bounded;
 mod checks;
 mod entries;

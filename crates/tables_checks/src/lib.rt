@@ -1,3 +1,5 @@
 // Examples and edges of a board's tables.
+#![tactic(auto)]
+
 #[cfg(test)]
 mod tests;

@@ -1,4 +1,6 @@
 // Texts at the edges of the format, each with the refusal that it gets.
+#![tactic(auto)]
+
 use grammar::Reader;
 use lines::Extra;
 use texts::alone::{read_change, read_question};

@@ -1,10 +1,9 @@
 -- Lines cut off at the first byte that ends one.
-use Rattle.std.proofs.Common.{◌≡◌, ℕ, zero, suc, ◌+◌, ◌-◌, ◌<◌, ◌≤◌, Bool, true, false, cond, not, ◌&&◌, eqb, List, [], ◌∷◌, ◌++◌, length, get_or, take, drop, sym, refl, ap, ◌∙◌, subst, inl, inr, arith, length-drop, eq-eqb, ne_eqb, eqb-true}
+use Rattle.std.proofs.Common.{◌≡◌, ℕ, suc, ◌+◌, ◌-◌, ◌<◌, ◌≤◌, Bool, true, false, cond, not, eqb, List, [], ◌∷◌, ◌++◌, length, take, drop, sym, refl, ap, ◌∙◌, subst, arith, length-drop, eqb-true}
 use borrow.Author.Tests.{clash}
-use Rattle.std.proofs.lemmas.Bool.{cond-true, cond-false, and_from}
-use Rattle.std.proofs.lemmas.List.{drop_more, drop_all, drop-drop, take-append-drop, take_all, append_cancel_left}
+use Rattle.std.proofs.lemmas.Bool.{and_from}
+use Rattle.std.proofs.lemmas.List.{drop-drop, take-append-drop, take_all, append_cancel_left}
 use Rattle.grammar.specs.Text.{run, Takes}
-use Rattle.grammar.specs.declared.grounds.Ground.TheVariants.{Syntax}
 use Rattle.policy.specs.declared.terms.Regime.{Regime}
 use Rattle.policy.specs.declared.terms.Regime.TheVariants.{Aatu, Aar}
 use Rattle.texts.specs.Board.{goes_on, unbroken, Cut, mark_line, regime_line}

@@ -1,5 +1,5 @@
 -- Questions and changes: the answer of a line carried to the text that it is alone in.
-use Rattle.std.proofs.Common.{◌≡◌, ℕ, ◌<◌, ◌≤◌, Bool, true, false, List, [], ◌∷◌, ◌++◌, length, Some, None, Ok, Err, Result, sym, refl, ap, ◌∙◌, subst, arith}
+use Rattle.std.proofs.Common.{◌≡◌, ℕ, ◌<◌, ◌≤◌, true, List, ◌∷◌, length, Some, Ok, Err, Result, sym, refl, ap, ◌∙◌, arith}
 use borrow.Author.Tests.{clash}
 use Rattle.grammar.specs.Text.{ahead}
 use Rattle.grammar.specs.declared.grounds.Ground.{Ground}
@@ -9,15 +9,13 @@ use Rattle.lines.specs.declared.keyword.Keyword.TheVariants as keyword
 use Rattle.lines.specs.declared.change.Change.{Change}
 use Rattle.lines.specs.declared.change.Extra.{Extra}
 use Rattle.lines.specs.Languages.{Language, Says, Fails, Refuses, number_of, Least, Unrefused, Told}
-use Rattle.lines.specs.Bodies.{Sides, sides}
-use Rattle.lines.specs.Lines.{Sentence, asks, lines, questions, Means, Line}
+use Rattle.lines.specs.Lines.{Sentence, asks, lines, Line}
 use Rattle.lines.proofs.Judging.{syntax_least}
 use Rattle.texts.specs.declared.faults.Fault.{Fault}
 use Rattle.texts.specs.declared.faults.Fault.TheVariants.{TooLong, Mark, InLine}
-use Rattle.texts.specs.declared.faults.Order.{Order}
 use Rattle.texts.specs.declared.faults.Way.{Way}
 use Rattle.texts.specs.declared.faults.Way.TheVariants.{Add, Remove}
-use Rattle.texts.specs.Answers.{told, Faulty, Answer, Asks, asks_possible, asks_necessary, Changing, sign_of, changes, Orders}
+use Rattle.texts.specs.Answers.{told, Faulty, Answer, Asks, asks_possible, asks_necessary, Changing, sign_of, changes}
 use Rattle.policy.specs.declared.terms.Kind.TheVariants.{Possible, Necessary}
 use Rattle.lines.specs.Readings.{TwoSides}
 use Rattle.texts.specs.Words.{Starts}

@@ -1,5 +1,5 @@
 -- Words told apart, and answers behind a word carried to the whole line.
-use Rattle.std.proofs.Common.{◌≡◌, ℕ, ◌+◌, ◌*◌, ◌<◌, Bool, true, false, cond, eqb, List, [], ◌∷◌, ◌++◌, length, take, drop, Some, None, Ok, Err, Option, Result, sym, refl, ap, ◌∙◌, subst, arith, Bor}
+use Rattle.std.proofs.Common.{◌≡◌, ℕ, ◌+◌, ◌*◌, Bool, true, false, cond, eqb, List, [], ◌∷◌, ◌++◌, length, take, drop, Some, None, Ok, Err, Option, Result, sym, refl, ap, ◌∙◌, subst, Bor}
 use borrow.Author.Tests.{clash}
 use Rattle.std.proofs.lemmas.List.{take-append-drop}
 use Rattle.grammar.specs.Text.{is_letter, is_digit, passes, run, Reads, Cut}
@@ -11,8 +11,8 @@ use Rattle.lines.specs.declared.keyword.Keyword.{Keyword}
 use Rattle.lines.specs.declared.keyword.Keyword.TheVariants.{Ua, Pa, Rh, Trust, Assign, Revoke, Always, Never, Possible, Necessary}
 use Rattle.lines.specs.declared.change.Change.{Change}
 use Rattle.lines.specs.declared.change.Extra.{Extra}
-use Rattle.lines.specs.Languages.{Language, Says, Fails, Refuses, number_of, Least, Unrefused, Told}
-use Rattle.lines.specs.Lines.{word, bodies, asks, Sentence, sentences, lines, Means, Body, Line}
+use Rattle.lines.specs.Languages.{Says, Fails, Refuses, Least, Unrefused, Told}
+use Rattle.lines.specs.Lines.{word, bodies, asks, Sentence, sentences, Means, Body, Line}
 use Rattle.lines.proofs.Judging.{syntax_least}
 use Rattle.lines.proofs.Rowing.{some_is, no_some}
 use Rattle.texts.specs.Words.{Keywords, Starts}

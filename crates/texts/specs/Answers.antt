@@ -1,11 +1,9 @@
 -- Questions and changes that stand alone, and when they are refused.
-use Rattle.std.specs.Prelude.{◌≡◌, ℕ, ◌<◌, Bool, true, false, List, ◌∷◌, length, Ok, Err, Result}
-use Rattle.grammar.specs.declared.grounds.Ground.{Ground}
-use Rattle.lines.specs.declared.keyword.Keyword.{Keyword}
+use Rattle.std.specs.Prelude.{◌≡◌, ℕ, ◌<◌, List, ◌∷◌, length, Ok, Err, Result}
 use Rattle.lines.specs.declared.keyword.Keyword.TheVariants as keyword
 use Rattle.lines.specs.declared.change.Extra.{Extra}
-use Rattle.lines.specs.Languages.{Language, Says, Refuses, number_of, Told}
-use Rattle.lines.specs.Lines.{bodies, Sentence, lines, questions, Sided, Means}
+use Rattle.lines.specs.Languages.{Language, Refuses, number_of, Told}
+use Rattle.lines.specs.Lines.{bodies, Sentence, lines, Sided, Means}
 use Rattle.texts.specs.declared.faults.Fault.{Fault}
 use Rattle.texts.specs.declared.faults.Fault.TheVariants.{TooLong, Mark, InLine}
 use Rattle.texts.specs.declared.faults.Order.{Order}

@@ -1,12 +1,11 @@
 -- A board text: its first two lines, and one line after the other.
-use Rattle.std.specs.Prelude.{◌≡◌, ℕ, ◌+◌, ◌<◌, ◌≤◌, min, Bool, true, false, not, ◌&&◌, ◌⊎◌, List, [], ◌∷◌, ◌++◌, length, Some, None, Ok, Err, codes, Option, Result, ◌==◌, ◌≢◌}
+use Rattle.std.specs.Prelude.{◌≡◌, ℕ, ◌+◌, ◌<◌, ◌≤◌, min, Bool, true, not, ◌&&◌, ◌⊎◌, List, [], ◌∷◌, ◌++◌, length, Some, None, Ok, Err, codes, Option, Result, ◌==◌, ◌≢◌}
 use Rattle.std.specs.Borrow.{Bor}
 use Rattle.grammar.specs.declared.grounds.Ground.{Ground}
 use Rattle.grammar.specs.declared.grounds.Ground.TheVariants.{Syntax}
-use Rattle.lines.specs.declared.change.Change.{Change}
 use Rattle.lines.specs.declared.change.Extra.{Extra}
-use Rattle.lines.specs.Languages.{Least, Unrefused, Told}
-use Rattle.lines.specs.Lines.{Sentence, lines, Means, Line}
+use Rattle.lines.specs.Languages.{Least}
+use Rattle.lines.specs.Lines.{lines, Line}
 use Rattle.texts.specs.declared.faults.Fault.{Fault}
 use Rattle.texts.specs.declared.faults.Fault.TheVariants.{TooLong, Mark, InLine}
 use Rattle.texts.specs.declared.faults.Next.{Next}

@@ -1,4 +1,6 @@
 // Whole lines, officers' changes, questions and board texts.
+#![tactic(auto)]
+
 mod faults;
 
 pub use faults::{Fault, Next, Order, Way};

@@ -1,13 +1,13 @@
 -- The readers turn a phrase of the grammar into the nodes of its meaning.
-use Rattle.std.proofs.Common.{◌≡◌, ℕ, zero, suc, ◌+◌, ◌-◌, ◌*◌, ◌<◌, ◌≤◌, max, Bool, true, false, cond, ◌&&◌, ltb, leb, List, [], ◌∷◌, ◌++◌, length, decimal, sym, refl, ap, ◌∙◌, subst, append_assoc, arith, length-append, lt-ltb}
-use Rattle.std.proofs.lemmas.Bool.{cond-true, cond-false, and_parts}
-use Rattle.grammar.specs.Text.{begins, begins_digit, Read, got, none, number}
+use Rattle.std.proofs.Common.{◌≡◌, ℕ, ◌+◌, ◌-◌, ◌*◌, ◌<◌, ◌≤◌, true, false, ltb, List, [], ◌∷◌, ◌++◌, length, decimal, sym, refl, ap, ◌∙◌, subst, append_assoc, arith, length-append, lt-ltb}
+use Rattle.std.proofs.lemmas.Bool.{cond-true, and_parts}
+use Rattle.grammar.specs.Text.{begins, begins_digit, got, none}
 use Rattle.policy.specs.Sets.{UserSet, members, holders, only, nobody, union, intersection}
 use Rattle.grammar.specs.Phrase.{Kind, set, term, factor, users, Phrase, one, or, lone, and, a_role, a_permission, no_users, braces, parens, a_user, also, render, meaning, levels, operands, in_range, Short, Written, Ends}
 use Rattle.grammar.proofs.Numbers.{number_written}
 use Rattle.trees.specs.declared.nodes.Node.{Node}
 use Rattle.trees.specs.declared.nodes.Node.TheVariants.{Role, Permission, User, Nobody, Or, And}
-use Rattle.trees.specs.Reading.{Small, postfix, Res, ok, bad, Reading, and_then, pick, add, more, chain, limited, leaf_of, close, leaf_at, user_at, users_at, braces_at, factor_at, term_at, set_at}
+use Rattle.trees.specs.Reading.{Small, postfix, ok, bad, Reading, add, more, chain, limited, leaf_of, leaf_at, user_at, users_at, braces_at, factor_at, term_at, set_at}
 use Rattle.trees.proofs.Steps as S
 
 adds : (n : Node) (s : List ℕ) (ns : List Node) → length ns < 63 → add n s ns ≡ ok s (ns ++ n ∷ [])

@@ -1,15 +1,14 @@
 -- One step of a reader, and one turn of a loop of `set` or `term`.
-use Rattle.std.proofs.Common.{◌≡◌, ℕ, zero, suc, ◌+◌, ◌-◌, ◌<◌, ◌≤◌, Bool, true, false, cond, eqb, ltb, leb, List, [], ◌∷◌, ◌++◌, length, get_or, take, drop, set, IsErrAnd, Ok, Err, Result, sym, refl, ap, ◌∙◌, subst, arith, le-ltb, lt-ltb, eq-eqb, ne_eqb, le-leb}
-use borrow.Author.Tests.{lt-leb}
-use Rattle.std.proofs.lemmas.List.{drop_more, drop_all, take_more_set, length-take-le}
+use Rattle.std.proofs.Common.{◌≡◌, ℕ, zero, suc, ◌+◌, ◌-◌, ◌<◌, ◌≤◌, false, eqb, List, [], ◌∷◌, length, take, set, IsErrAnd, Result, sym, refl, ap, ◌∙◌, arith, le-ltb, lt-ltb, eq-eqb}
+use Rattle.std.proofs.lemmas.List.{take_more_set, length-take-le}
 use Rattle.std.proofs.lemmas.Bool.{cond-true, cond-false}
 use Rattle.trees.specs.declared.nodes.Node.{Node}
 use Rattle.grammar.specs.declared.grounds.Ground.{Ground}
 use Rattle.trees.specs.declared.nodes.Node.TheVariants.{Role, Permission}
 use Rattle.std.proofs.lemmas.Result.{err_from_is_err_and}
-use Rattle.grammar.specs.Text.{ahead, behind, begins, number, got, none}
+use Rattle.grammar.specs.Text.{ahead, behind, begins}
 use Rattle.grammar.proofs.Digits.{ahead_is, ahead_not}
-use Rattle.trees.specs.Reading.{Res, ok, bad, Reading, told, and_then, pick, add, more, chain, leaf_of, leaf_at, users_at, braces_at, close, inside, factor_at, term_at, set_at}
+use Rattle.trees.specs.Reading.{Res, ok, bad, Reading, told, and_then, pick, add, more, chain, leaf_at, users_at, braces_at, close, inside, factor_at, term_at, set_at}
 
 pub add_fits : (n : Node) (s : List ℕ) (a : List Node) (k : ℕ) → length a ≡ 63 → k < 63 → add n s (take k a) ≡ ok s (take (k + 1) (set a k n))
 add_fits n s a k e h =

@@ -1,5 +1,5 @@
 -- What the check of plain nodes answers.
-use Rattle.std.specs.Prelude.{◌≡◌, List, Some, None, Option, ◌≢◌}
+use Rattle.std.specs.Prelude.{◌≡◌, Some, None, Option, ◌≢◌}
 use Rattle.policy.specs.Sets.{UserSet}
 use Rattle.trees.specs.declared.nodes.Nodes.{Nodes}
 use Rattle.trees.specs.declared.tree.UserTree.{UserTree}

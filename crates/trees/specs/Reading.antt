@@ -1,8 +1,8 @@
 -- How a set is read into nodes: an executable reading on lists.
-use Rattle.std.specs.Prelude.{◌≡◌, ℕ, zero, suc, ◌≤◌, Bool, true, false, cond, List, [], ◌∷◌, ◌++◌, length, take, Some, None, Ok, Err, Option, Result, ◌==◌, nat_lt}
+use Rattle.std.specs.Prelude.{◌≡◌, ℕ, zero, suc, ◌≤◌, true, cond, List, [], ◌∷◌, ◌++◌, length, take, Some, None, Ok, Err, Option, Result, ◌==◌, nat_lt}
 use Rattle.grammar.specs.Text.{Read, got, none, number}
 use Rattle.policy.specs.Sets.{UserSet, members, holders, only, nobody, union, intersection}
-use Rattle.grammar.specs.Phrase.{Kind, set, Phrase, meaning, levels, operands, in_range, Written, Ends}
+use Rattle.grammar.specs.Phrase.{set, Phrase, meaning, levels, operands, in_range, Written, Ends}
 use Rattle.trees.specs.declared.nodes.Nodes.{Nodes}
 use Rattle.trees.specs.declared.nodes.Node.{Node}
 use Rattle.trees.specs.declared.nodes.Node.TheVariants.{Role, Permission, User, Nobody, Or, And}

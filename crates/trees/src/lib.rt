@@ -1,4 +1,6 @@
 // Sets of users as postfix nodes: read from text, and valid by type.
+#![tactic(auto)]
+
 mod nodes;
 mod tree;
 

@@ -1,24 +1,21 @@
 -- The closing, and the run that takes all, decide the question at their ends.
-use Rattle.std.proofs.Common.{◌≡◌, ℕ, ◌*◌, ◌<◌, ◌≤◌, Bool, true, false, not, ◌&&◌, T, ◌⊎◌, ◌↔◌, List, [], ◌∷◌, length, take, sym, refl, ap, ◌∙◌, subst, inl, inr, arith}
+use Rattle.std.proofs.Common.{◌≡◌, ℕ, ◌*◌, ◌≤◌, Bool, true, false, not, T, ◌↔◌, List, [], ◌∷◌, take, ap, ◌∙◌, subst, inl, inr, arith}
 use mathlib.Core.Path.{subst⁻¹}
 use Rattle.words.specs.Words.{bits}
-use Rattle.steps.specs.Steps.{Facts, System, new}
+use Rattle.steps.specs.Steps.{new}
 use Rattle.steps.specs.Closing.{Closed}
 use Rattle.policy.specs.Membership.{User, Role, State}
 use Rattle.policy.specs.Rules.{Policy}
-use Rattle.policy.specs.Sets.{Question, Holds, Static}
-use Rattle.policy.specs.Runs.{Change, adds, removes, moves, Run, end}
+use Rattle.policy.specs.Sets.{Question, Holds}
+use Rattle.policy.specs.Runs.{Change, adds, removes, moves, end}
 use Rattle.policy.specs.Reach.{revocable, floor}
 use Rattle.policy.specs.Bounds.{Holder}
 use Rattle.policy.specs.Hire.{Tracking, Looked, Each, Closing}
 use Rattle.policy.specs.Verdicts.{HoldsHere}
 use Rattle.policy.specs.Delegation.{Slots, state_of, is_looked, row_at, delegation, IsRun}
-use Rattle.policy.specs.Asking.{VerdictExact}
-use Rattle.policy.specs.Terms.{Asked, side}
-use Rattle.policy.specs.declared.terms.Kind.{Kind}
-use Rattle.policy.specs.declared.terms.Side.{Side}
+use Rattle.policy.specs.Terms.{Asked}
 use Rattle.policy.specs.declared.terms.Place.TheVariants.{Floor, Top}
-use Rattle.policy.proofs.Tests.{first, as_test}
+use Rattle.policy.proofs.Tests.{first}
 use Rattle.policy.proofs.Delegate.{lawful, recorded, is_run, unlook}
 use Rattle.policy.proofs.Closes.{closes}
 use Rattle.rbac.specs.declared.users.User.{User as AUser}

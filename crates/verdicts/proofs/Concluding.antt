@@ -1,5 +1,5 @@
 -- The two ways in which deciding ends.
-use Rattle.std.proofs.Common.{◌≡◌, ℕ, ◌≤◌, Bool, true, false, not, ◌↔◌, List, length, take, drop, Some, None, sym, refl, ap, ◌∙◌, subst, subst₂, arith}
+use Rattle.std.proofs.Common.{◌≡◌, ℕ, Bool, true, false, not, List, take, drop, Some, None, sym, refl, subst₂, arith}
 use mathlib.Core.Path.{subst⁻¹}
 use Rattle.policy.specs.Membership.{State}
 use Rattle.policy.specs.Rules.{Policy}

@@ -1,6 +1,6 @@
 -- The first revoke rule with a target.
-use Rattle.std.proofs.Common.{◌≡◌, ℕ, zero, suc, ◌+◌, ◌<◌, ◌≤◌, min, Bool, true, false, ◌||◌, T, List, [], ◌∷◌, map, length, get_or, take, sym, refl, ap, ◌∙◌, subst, ap₂, not-suc-le-zero, arith}
-use Rattle.policy.specs.Rules.{RevokeRule, Nth, first, later}
+use Rattle.std.proofs.Common.{◌≡◌, ℕ, zero, suc, ◌<◌, min, false, ◌||◌, List, [], ◌∷◌, map, length, get_or, take, refl, ap₂, not-suc-le-zero, arith}
+use Rattle.policy.specs.Rules.{Nth, first, later}
 use Rattle.policy.specs.Reach.{revocable}
 use Rattle.rbac.specs.Roles.{roles_of}
 use Rattle.tables.specs.declared.entries.RevokeEntry.{RevokeEntry}

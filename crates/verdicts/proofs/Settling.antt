@@ -1,5 +1,5 @@
 -- What was found decides the question, and the run shows it.
-use Rattle.std.proofs.Common.{◌≡◌, ℕ, zero, suc, ◌<◌, ◌≤◌, Bool, true, false, not, ◌&&◌, T, ◌⊎◌, ◌↔◌, List, [], ◌∷◌, ◌++◌, length, get_or, take, drop, Some, Decides, sym, refl, ap, ◌∙◌, subst, ap₂, inl, inr, ⊎_elim, not-suc-le-zero, arith, length-take, take-take}
+use Rattle.std.proofs.Common.{◌≡◌, ℕ, zero, suc, ◌<◌, ◌≤◌, Bool, true, false, not, ◌&&◌, T, ◌⊎◌, ◌↔◌, List, [], ◌∷◌, ◌++◌, length, get_or, take, Decides, sym, refl, ap, ◌∙◌, subst, ap₂, inl, inr, ⊎_elim, not-suc-le-zero, arith}
 use mathlib.Core.Path.{subst⁻¹}
 use mathlib.Core.Bool.{beq}
 use mathlib.Core.Logic.{⊎_map}
@@ -11,14 +11,13 @@ use Rattle.policy.specs.Sets.{UserSet, members, holders, only, nobody, union, in
 use Rattle.policy.specs.Runs.{Change, adds, removes, after, Moves, moves, Run, end}
 use Rattle.policy.specs.Bounds.{Holder, Measured}
 use Rattle.policy.specs.Hire.{names, OnlyAdds, OnlyRemoves, Each}
-use Rattle.policy.specs.Verdicts.{FirstAt, NamesFew, Shows}
+use Rattle.policy.specs.Verdicts.{Shows}
 use Rattle.policy.specs.Terms.{Asked, side}
 use Rattle.policy.specs.declared.terms.Kind.{Kind}
 use Rattle.policy.specs.declared.terms.Kind.TheVariants.{Possible, Necessary}
 use Rattle.policy.specs.declared.terms.Place.{Place}
 use Rattle.policy.proofs.Deciding.{holds?}
-use Rattle.policy.proofs.Tests.{as_true, as_test}
-use Rattle.rbac.specs.declared.users.User.{User as AUser}
+use Rattle.policy.proofs.Tests.{as_true}
 use Rattle.rbac.specs.Roles.{roles_of}
 use Rattle.hierarchy.specs.Edges.{no_roles}
 use Rattle.trees.specs.declared.nodes.Node.{Node}
@@ -41,7 +40,7 @@ use Rattle.verdicts.specs.Looking.{Says, Sought, change_of, changes}
 use Rattle.verdicts.specs.Ready.{Ready}
 use Rattle.verdicts.specs.Candidates.{place_adds, Candidate}
 use Rattle.verdicts.specs.Verdict.{still, all_still, side_fixed, sought_by}
-use Rattle.verdicts.proofs.Tracked.{tracking, seated_looked}
+use Rattle.verdicts.proofs.Tracked.{seated_looked}
 use Rattle.verdicts.proofs.Stripping.{holder_seated}
 
 pub whole_needs_lem : (n : Needs) → Whole n → whole_needs n ≡ true

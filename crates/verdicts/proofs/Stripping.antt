@@ -1,17 +1,16 @@
 -- Taking one role after another.
-use Rattle.std.proofs.Common.{◌≡◌, ℕ, zero, suc, ◌+◌, ◌*◌, ◌/◌, ◌%◌, ◌<◌, ◌≤◌, Bool, true, false, not, ◌&&◌, ◌||◌, T, eqb, ltb, ◌⊎◌, List, [], ◌∷◌, ◌++◌, map, length, take, set, sym, refl, ap, ◌∙◌, subst, ap₂, inl, inr, ⊎_elim, add-one, arith, ltb→lt, lt→ltb, take-suc-set}
+use Rattle.std.proofs.Common.{◌≡◌, ℕ, ◌+◌, ◌*◌, ◌/◌, ◌%◌, ◌<◌, Bool, true, false, not, ◌&&◌, T, ltb, ◌⊎◌, List, [], ◌∷◌, ◌++◌, length, take, set, sym, refl, ap, ◌∙◌, subst, ap₂, inl, inr, ⊎_elim, add-one, arith, ltb→lt, lt→ltb, take-suc-set}
 use mathlib.Core.Path.{subst⁻¹, fun_ext}
-use lib.Seq.{take-set-le}
-use Rattle.std.proofs.lemmas.Bool.{cases_eq, cases_lt, both_ways}
+use Rattle.std.proofs.lemmas.Bool.{cases_eq, both_ways}
 use Rattle.policy.specs.Membership.{User, Role, State, same}
 use Rattle.policy.specs.Rules.{Policy, RevokeRule, Nth, MayRemove}
 use Rattle.policy.specs.Sets.{Question}
 use Rattle.policy.specs.Runs.{Change, removes, pair, after, moves, Run, end}
-use Rattle.policy.specs.Regimes.{Aatu, Aar, Regular}
+use Rattle.policy.specs.Regimes.{Aatu, Aar}
 use Rattle.policy.specs.Reach.{revocable, floor}
 use Rattle.policy.specs.Bounds.{Holder}
 use Rattle.policy.specs.Hire.{OnlyRemoves, Each}
-use Rattle.policy.proofs.Tests.{agree, either, first, second, both, or_left, clash, deny, decide, as_true, as_test, as_false, as_denied, is_it, it_is}
+use Rattle.policy.proofs.Tests.{agree, first, second, both, clash, deny, as_true, as_test, is_it, it_is}
 use Rattle.policy.proofs.Numbered.{gives_revocable}
 use Rattle.policy.proofs.Runs.{joined, ends}
 use Rattle.policy.proofs.Floor.{each_joined, removes_joined, stays, by_regime}
@@ -21,9 +20,9 @@ use Rattle.deciding.specs.declared.plan.Plan.{Plan}
 use Rattle.deciding.specs.Delegates.{user_at, removing}
 use Rattle.planning.specs.Seats.{seated}
 use Rattle.planning.proofs.Seating.{at_seated}
-use Rattle.verdicts.specs.Looking.{change_of, changes, slot_in}
+use Rattle.verdicts.specs.Looking.{changes, slot_in}
 use Rattle.verdicts.specs.Ready.{Ready, Sitting}
-use Rattle.verdicts.specs.Stripped.{Takes, Taken, lowered, Stripped}
+use Rattle.verdicts.specs.Stripped.{Takes, lowered, Stripped}
 use Rattle.verdicts.proofs.Tracked.{slot_is}
 
 no_nth : {k : ℕ} {rule : RevokeRule} → Nth k rule [] → ⊥

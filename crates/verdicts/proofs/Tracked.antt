@@ -1,36 +1,29 @@
 -- A plan's slots are a table of tracked users and a hire.
-use Rattle.std.proofs.Common.{◌≡◌, ℕ, zero, suc, ◌+◌, ◌*◌, ◌/◌, ◌%◌, ◌<◌, ◌≤◌, Bool, true, false, cond, not, ◌&&◌, ◌||◌, T, eqb, ◌⊎◌, List, [], ◌∷◌, ◌++◌, map, length, get_or, take, drop, Decides, sym, refl, ap, ◌∙◌, subst, ap₂, inl, inr, ⊎_elim, arith, eqb→eq}
+use Rattle.std.proofs.Common.{◌≡◌, ℕ, suc, ◌%◌, ◌<◌, ◌≤◌, Bool, true, false, cond, ◌||◌, T, eqb, List, [], ◌∷◌, ◌++◌, map, length, get_or, take, Decides, sym, refl, ap, ◌∙◌, subst, inl, inr, ⊎_elim, arith, eqb→eq}
 use mathlib.Core.Path.{subst⁻¹, fun_ext}
-use mathlib.Core.Logic.{⊎_map}
-use lib.Dec.{eqb_refl}
 use Rattle.std.proofs.lemmas.List.{get_or-take, length-take-le}
 use Rattle.std.proofs.lemmas.Bool.{cases_eq, both_ways}
 use Rattle.words.specs.Words.{bits, with}
-use Rattle.steps.specs.Steps.{Facts, System, Trace, none, more, Derivable, given, made, Lawful}
-use Rattle.policy.specs.Tests.{listed}
-use Rattle.policy.specs.Membership.{User, Role, IsUser, Row, State}
-use Rattle.policy.specs.Rules.{Policy, MayAdd, Nth}
+use Rattle.steps.specs.Steps.{Facts, System, Trace, none, more, Derivable, made}
+use Rattle.policy.specs.Membership.{User, State}
+use Rattle.policy.specs.Rules.{Policy}
 use Rattle.policy.specs.Sets.{Question}
-use Rattle.policy.specs.Runs.{Change, adds, moves, end}
-use Rattle.policy.specs.Bounds.{Holder, Measured}
-use Rattle.policy.specs.Hire.{names, Tracking, Looked, Each, Closing}
+use Rattle.policy.specs.Hire.{Tracking, Looked}
 use Rattle.policy.specs.Verdicts.{Covers}
-use Rattle.policy.specs.Delegation.{TellsSenior, Slots, row_at, is_looked, state_of, rule_of, number_of, slot_of, role_of, delegation, Shut, IsRun}
-use Rattle.policy.proofs.Tests.{agree, either, first, second, both, or_left, or_right, clash, deny, decide, as_true, as_test, as_false}
+use Rattle.policy.specs.Delegation.{TellsSenior, Slots, row_at, is_looked, state_of, rule_of, number_of, slot_of, role_of, delegation, Shut}
+use Rattle.policy.proofs.Tests.{agree, first, second, both, clash, deny, as_true, as_test}
 use Rattle.policy.proofs.Delegate.{opens_by, ruled, look, unlook}
 use Rattle.rbac.specs.declared.sets.RoleSet.{RoleSet}
 use Rattle.rbac.specs.declared.users.User.{User as AUser}
-use Rattle.rbac.specs.Roles.{roles_of}
-use Rattle.hierarchy.specs.Edges.{no_roles}
 use Rattle.tables.specs.View.{names as names_all}
 use Rattle.deciding.specs.declared.runs.RunStep.{RunStep}
 use Rattle.deciding.specs.Masked.{down_of}
-use Rattle.deciding.specs.Delegates.{no_user, user_at, adding, delegates, Named}
+use Rattle.deciding.specs.Delegates.{no_user, user_at, adding, delegates}
 use Rattle.deciding.proofs.Opening.{row_is}
-use Rattle.planning.specs.Seats.{Seated, seated}
+use Rattle.planning.specs.Seats.{seated}
 use Rattle.planning.specs.Plans.{Planned}
-use Rattle.planning.proofs.Seating.{seated_at, at_seated, names_more}
-use Rattle.verdicts.specs.Looking.{word_row, Says, place}
+use Rattle.planning.proofs.Seating.{seated_at, at_seated}
+use Rattle.verdicts.specs.Looking.{Says, place}
 
 at_place : (xs : List AUser) (u : ℕ) → T (names_all xs u) → (place xs u < length xs) × ((get_or xs (place xs u) no_user).number ≡ u)
 at_place [] u h = absurd h

@@ -1,17 +1,17 @@
 -- The tests at the slots say whether the question is true in a state.
-use Rattle.std.proofs.Common.{◌≡◌, ℕ, zero, suc, ◌+◌, ◌<◌, ◌≤◌, Bool, true, false, cond, not, ◌&&◌, ◌||◌, T, eqb, ◌⊎◌, ◌↔◌, List, [], ◌∷◌, ◌++◌, length, get_or, Some, Decides, sym, refl, ap, ◌∙◌, subst, ap₂, inl, inr, ⊎_elim, not-suc-le-zero, arith, eqb→eq}
+use Rattle.std.proofs.Common.{◌≡◌, ℕ, zero, suc, ◌+◌, ◌<◌, ◌≤◌, Bool, true, false, not, ◌&&◌, T, eqb, ◌⊎◌, ◌↔◌, List, Some, sym, refl, ap, ◌∙◌, ap₂, inl, inr, ⊎_elim, not-suc-le-zero, arith, eqb→eq}
 use mathlib.Core.Path.{subst⁻¹}
 use lib.Dec.{eqb_refl}
-use Rattle.std.proofs.lemmas.Bool.{cases_eq, both_ways}
+use Rattle.std.proofs.lemmas.Bool.{cases_eq}
 use Rattle.steps.specs.Steps.{count}
-use Rattle.policy.specs.Membership.{User, Role, IsUser, Row, State, Senior, Member}
+use Rattle.policy.specs.Membership.{User, Role, Row, State}
 use Rattle.policy.specs.Rules.{Policy}
 use Rattle.policy.specs.Sets.{UserSet, members, holders, only, nobody, union, intersection, In, HasPermission, Question, Holds, Static, SemiStatic}
 use Rattle.policy.specs.Hire.{Tracking, Looked}
 use Rattle.policy.specs.Verdicts.{Covers, HoldsHere}
-use Rattle.policy.specs.Delegation.{member_test, TellsSenior}
+use Rattle.policy.specs.Delegation.{member_test}
 use Rattle.policy.specs.Reach.{◌⊑◌}
-use Rattle.policy.proofs.Tests.{either, first, second, both, or_left, or_right, clash, deny, decide, as_true, as_test, as_false, as_denied, some_at, some_gives, listed_left, listed_right}
+use Rattle.policy.proofs.Tests.{either, first, second, both, or_left, or_right, clash, decide, some_at, some_gives}
 use Rattle.policy.proofs.Delegate.{member_test_lem}
 use Rattle.policy.proofs.Growing.{inside}
 use Rattle.policy.proofs.Exact.{static, static_widely, alike, wx, wy}

@@ -1,29 +1,24 @@
 -- One step of a run, at the slots.
-use Rattle.std.proofs.Common.{◌≡◌, ℕ, zero, suc, ◌+◌, ◌<◌, ◌≤◌, Bool, true, false, not, ◌&&◌, ◌||◌, T, eqb, ◌≢◌, ◌⊎◌, List, [], ◌∷◌, ◌++◌, map, length, get_or, take, set, Decides, sym, refl, ap, ◌∙◌, subst, ap₂, inl, inr, ⊎_elim, not-suc-le-zero, arith, eqb→eq, get_or-set_other, get_or-set_same}
+use Rattle.std.proofs.Common.{◌≡◌, ℕ, zero, suc, ◌+◌, ◌<◌, ◌≤◌, Bool, true, false, not, ◌&&◌, ◌||◌, T, eqb, ◌≢◌, ◌⊎◌, List, [], ◌∷◌, length, get_or, take, set, Decides, sym, refl, ap, ◌∙◌, subst, inl, inr, ⊎_elim, not-suc-le-zero, arith, eqb→eq, get_or-set_other, get_or-set_same}
 use mathlib.Core.Path.{subst⁻¹, fun_ext}
 use mathlib.Core.Bool.{beq}
-use lib.Dec.{eqb_refl}
 use Rattle.std.proofs.lemmas.Bool.{cases_eq, both_ways, ne_eqb, eq-eqb}
 use Rattle.steps.specs.Steps.{count}
-use Rattle.policy.specs.Membership.{User, Role, IsUser, Row, State}
+use Rattle.policy.specs.Membership.{User, Role, State}
 use Rattle.policy.specs.Rules.{Policy}
 use Rattle.policy.specs.Sets.{Question, Holds}
-use Rattle.policy.specs.Runs.{Change, pair, after, end}
-use Rattle.policy.specs.Hire.{Tracking, Looked}
-use Rattle.policy.specs.Verdicts.{HoldsHere}
-use Rattle.policy.proofs.Tests.{either, first, second, both, or_left, as_true, as_test, as_false, as_denied, is_it, deny}
-use Rattle.policy.proofs.Runs.{ends}
+use Rattle.policy.specs.Runs.{pair, after, end}
+use Rattle.policy.specs.Hire.{Tracking}
+use Rattle.policy.proofs.Tests.{either, first, as_true, as_test, is_it}
 use Rattle.rbac.specs.declared.sets.RoleSet.{RoleSet}
 use Rattle.rbac.specs.declared.users.User.{User as AUser}
-use Rattle.rbac.specs.Roles.{roles_of, without}
+use Rattle.rbac.specs.Roles.{roles_of}
 use Rattle.rbac.proofs.Masks.{of}
-use Rattle.words.specs.Words.{with}
 use Rattle.deciding.specs.declared.runs.RunStep.{RunStep}
 use Rattle.deciding.specs.declared.plan.Plan.{Plan}
-use Rattle.deciding.specs.Delegates.{no_user, user_at, adding, removing}
+use Rattle.deciding.specs.Delegates.{no_user, user_at}
 use Rattle.planning.specs.Seats.{seated}
 use Rattle.planning.proofs.Ranking.{small}
-use Rattle.planning.proofs.Seating.{seated_at}
 use Rattle.verdicts.specs.Looking.{word_row, passed, fails, failing, Says, Sought, change_of, changes, turned, one, place}
 use Rattle.verdicts.specs.Ready.{Ready, Sitting}
 use Rattle.verdicts.proofs.Truth.{pass_in, in_pass, count_none, none_count, count_change, here_holds}

@@ -1,5 +1,5 @@
 -- A run at whose end the question is decided.
-use Rattle.std.specs.Prelude.{ℕ, ◌≤◌, Bool, true, false, T, ◌⊎◌, ◌↔◌, List, length, take}
+use Rattle.std.specs.Prelude.{ℕ, ◌≤◌, Bool, true, false, T, ◌⊎◌, ◌↔◌, List, take}
 use Rattle.policy.specs.Measures.{list_places}
 use Rattle.policy.specs.Membership.{State}
 use Rattle.policy.specs.Rules.{Policy}

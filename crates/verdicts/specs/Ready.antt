@@ -1,5 +1,5 @@
 -- What a question is decided from.
-use Rattle.std.specs.Prelude.{◌≡◌, ℕ, ◌≤◌, Bool, T, List, [], ◌∷◌, length}
+use Rattle.std.specs.Prelude.{ℕ, T, List, [], ◌∷◌}
 use Rattle.policy.specs.Membership.{State}
 use Rattle.policy.specs.Rules.{Policy}
 use Rattle.policy.specs.Sets.{Question, SemiStatic}

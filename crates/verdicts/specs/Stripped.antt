@@ -1,7 +1,7 @@
 -- The run that takes all that can be taken, slot by slot and role by role.
-use Rattle.std.specs.Prelude.{◌≡◌, ℕ, ◌+◌, ◌*◌, ◌<◌, ◌≤◌, Bool, true, false, not, ◌&&◌, T, List, map, length, take, Some, None, Option, nat_lt}
+use Rattle.std.specs.Prelude.{◌≡◌, ℕ, ◌+◌, ◌*◌, ◌<◌, ◌≤◌, false, not, ◌&&◌, T, List, take, Some, None, Option, nat_lt}
 use Rattle.policy.specs.Measures.{roles}
-use Rattle.policy.specs.Membership.{User, Role, State}
+use Rattle.policy.specs.Membership.{Role, State}
 use Rattle.policy.specs.Rules.{Policy, RevokeRule, Nth}
 use Rattle.policy.specs.Runs.{moves, Run, end}
 use Rattle.policy.specs.Reach.{revocable}

@@ -1,5 +1,5 @@
 -- What a verdict promises.
-use Rattle.std.specs.Prelude.{◌≡◌, ℕ, ◌<◌, ◌≤◌, Bool, true, false, ◌&&◌, List, [], ◌∷◌, length, take, drop, Ok, Err, Decides, MatchBool, Result}
+use Rattle.std.specs.Prelude.{◌≡◌, ℕ, ◌<◌, Bool, true, false, ◌&&◌, List, [], ◌∷◌, length, take, drop, Ok, Err, Decides, MatchBool, Result}
 use Rattle.std.specs.Bool.{beq}
 use Rattle.steps.specs.declared.short.TooShort.{TooShort}
 use Rattle.steps.specs.declared.short.TooShort.TheVariants.{Words, Places}

@@ -1,4 +1,6 @@
 // Questions decided, and the runs that show the verdicts.
+#![tactic(auto)]
+
 mod asking;
 mod lowest;
 mod replay;

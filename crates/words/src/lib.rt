@@ -1,4 +1,6 @@
 // Sets of small numbers, held as bits of a row of 64-bit words.
+#![tactic(auto)]
+
 ghost use Rattle.std.specs.Prelude.{◌≡◌, ◌/◌, true, false, length, MatchBool, nat_lt, slice_index};
 ghost use Rattle.words.specs.Words.{bits, with};
 

@@ -1,6 +1,5 @@
-use Rattle.std.proofs.Common.{◌≡◌, ◌+◌, ◌≤◌, length, sym, refl, ◌∙◌, subst, arith}
-use Rattle.grammar.specs.Text.{rest}
-use Rattle.survey.proofs.First.{Walked, walk_start, walk_on, counted, shorter, begun, fault_answer, all_read}
+use Rattle.std.proofs.Common.{arith}
+use Rattle.survey.proofs.First.{walk_on, counted, shorter, begun, fault_answer, all_read}
 use Rattle.survey.proofs.check.Goals as goal
 
 pub returns-in-Err : goal.returns-in-Err

@@ -1,6 +1,5 @@
-use Rattle.std.proofs.Common.{◌≡◌, ℕ, ◌+◌, ◌≤◌, List, ◌++◌, length}
+use Rattle.std.proofs.Common.{◌+◌, ◌≤◌, length}
 use Rattle.grammar.specs.Text.{rest}
-use Rattle.texts.specs.Board.{mark_line, regime_line}
 use Rattle.survey.proofs.First.{Walked}
 use Rattle.survey.proofs.check.Given as goal
 

@@ -1,4 +1,4 @@
-use Rattle.std.proofs.Common.{◌≡◌, ◌/◌, ◌<◌, length, sym, arith}
+use Rattle.std.proofs.Common.{◌/◌, ◌<◌, length, sym, arith}
 use Rattle.std.proofs.lemmas.Bool.{lt-ltb}
 use Rattle.words.proofs.Rows.{bits_put}
 use Rattle.words.proofs.put.Goals as goal

@@ -1,4 +1,4 @@
-use Rattle.std.proofs.Common.{◌≡◌, ◌<◌, Bool, true, false, not, ◌&&◌, get_or, sym, ap, ◌∙◌, ap₂, arith, below_more}
+use Rattle.std.proofs.Common.{◌≡◌, false, get_or, ◌∙◌, arith, below_more}
 use Rattle.words.specs.Words.{bits}
 use Rattle.tables.specs.View.{policy_of}
 use Rattle.deciding.specs.Delegates.{may_act}
@@ -13,8 +13,8 @@ returns-then-plan-j c =
       within = omega (arith, c.loop-j-test.true);
       before = c.loop-j.invariant;
       here = λ h.
-          may_is (policy_of c.args.tables.now) x.users x.masks.seniors c.args.facts.now c.args.admin.number c.loop-j.j free c.from-word-there.result c.member-administers.result c.number.result
-          (c.requires.acts c.loop-j.j h) (c.from-word-there.ensures ∙ c.word.ensures) c.member-administers.ensures c.number.ensures.is
+          may_is (policy_of c.args.tables.now) x.users x.masks.seniors c.args.facts.now c.args.admin.number c.loop-j.j free c.from_word-there.result c.member-administers.result c.number.result
+          (c.requires.acts c.loop-j.j h) (c.from_word-there.ensures ∙ c.word.ensures) c.member-administers.ensures c.number.ensures.is
           ∙ c.if-plan-j.true;
     }
 
@@ -23,6 +23,6 @@ loop-j-preserved c =
     let x = c.args.plan.now in
     let free = get_or x.acts c.loop-j.j false in
     below_more (λ k. may_act (policy_of c.args.tables.now) x.users x.masks.seniors (bits c.args.facts.now) c.args.admin.number k ≡ false) c.loop-j.j c.loop-j.invariant
-    (may_is (policy_of c.args.tables.now) x.users x.masks.seniors c.args.facts.now c.args.admin.number c.loop-j.j free c.from-word-there.result c.member-administers.result c.number.result
-    (c.requires.acts c.loop-j.j c.loop-j-test.true) (c.from-word-there.ensures ∙ c.word.ensures) c.member-administers.ensures c.number.ensures.is
+    (may_is (policy_of c.args.tables.now) x.users x.masks.seniors c.args.facts.now c.args.admin.number c.loop-j.j free c.from_word-there.result c.member-administers.result c.number.result
+    (c.requires.acts c.loop-j.j c.loop-j-test.true) (c.from_word-there.ensures ∙ c.word.ensures) c.member-administers.ensures c.number.ensures.is
     ∙ c.if-plan-j.false)

@@ -1,4 +1,4 @@
-use Rattle.std.proofs.Common.{◌≡◌, arith}
+use Rattle.std.proofs.Common.{arith}
 use Rattle.deciding.proofs.Viewing.{rules_are, rule_is, entry_nth}
 use Rattle.deciding.proofs.delegating.entry_at.Goals as goal
 

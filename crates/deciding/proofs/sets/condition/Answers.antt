@@ -1,4 +1,4 @@
-use Rattle.std.proofs.Common.{◌≡◌, sym, ap, ◌∙◌, arith}
+use Rattle.std.proofs.Common.{sym, ap, ◌∙◌, arith}
 use Rattle.policy.specs.Delegation.{meets_test}
 use Rattle.rbac.specs.Roles.{roles_of}
 use Rattle.tables.specs.View.{set_of, condition_of}

@@ -1,4 +1,4 @@
-use Rattle.std.proofs.Common.{◌≡◌, ◌&&◌, ap, ◌∙◌}
+use Rattle.std.proofs.Common.{◌&&◌, ap, ◌∙◌}
 use Rattle.policy.specs.Tests.{some}
 use Rattle.rbac.specs.Roles.{roles_of}
 use Rattle.deciding.proofs.Machine.{shared}
@@ -6,5 +6,5 @@ use Rattle.deciding.proofs.sets.member.Goals as goal
 
 pub returns : goal.returns
 returns c =
-    shared c.args.roles c.set-at.result c.meets.result c.meets.ensures
-    ∙ ap (λ m. some 64 (λ q. roles_of c.args.roles q && roles_of m q)) c.set-at.ensures
+    shared c.args.roles c.set_at.result c.meets.result c.meets.ensures
+    ∙ ap (λ m. some 64 (λ q. roles_of c.args.roles q && roles_of m q)) c.set_at.ensures

@@ -1,4 +1,4 @@
-use Rattle.std.proofs.Common.{◌≡◌, ◌+◌, ◌^◌, ◌<◌, ◌≤◌, length, get_or, take, drop, sym, refl, ap, ◌∙◌, subst, arith, pow_mono}
+use Rattle.std.proofs.Common.{◌≡◌, ◌+◌, ◌^◌, ◌<◌, ◌≤◌, length, get_or, take, drop, sym, ap, ◌∙◌, subst, arith, pow_mono}
 use Rattle.rbac.specs.Roles.{roles_of}
 use Rattle.trees.specs.declared.nodes.Node.TheVariants.{Role}
 use Rattle.deciding.specs.Masked.{leaf_says, pushed}

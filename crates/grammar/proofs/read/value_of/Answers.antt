@@ -1,12 +1,12 @@
-use Rattle.std.proofs.Common.{◌≡◌, ◌≤◌, false, ◌⊎◌, [], length, get_or, drop, sym, refl, ap, ◌∙◌, inl, inr, arith, rules}
+use Rattle.std.proofs.Common.{◌≡◌, ◌≤◌, false, ◌⊎◌, length, get_or, drop, ap, ◌∙◌, inl, inr, arith, rules}
 use Rattle.std.proofs.lemmas.List.{drop_all}
 use Rattle.grammar.specs.Text.{is_digit, got, number, begins_zero}
 use Rattle.grammar.proofs.Digits.{run_all, digit_low, digit_high, value_more, value_all, ten_more, number_is, number_good, no_zero}
 use Rattle.grammar.proofs.read.value_of.Goals as goal
 use Rattle.grammar.proofs.read.value_of.Goals.{else-count-gt1-via-then-count-gt1+else-s-eq48, else-count-gt1-via-else-count-gt1}
 
-pub overflow-sub-n : goal.overflow-sub-n
-overflow-sub-n c = digit_low _ (run_all is_digit c.args.s.now c.loop-i.i (omega (arith, c.requires)))
+pub overflow_sub-n : goal.overflow_sub-n
+overflow_sub-n c = digit_low _ (run_all is_digit c.args.s.now c.loop-i.i (omega (arith, c.requires)))
 
 pub loop-i-preserved : goal.loop-i-preserved
 loop-i-preserved c =

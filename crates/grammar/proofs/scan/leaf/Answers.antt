@@ -1,6 +1,6 @@
-use Rattle.std.proofs.Common.{◌≡◌, ◌+◌, sym, refl, ap, ◌∙◌, arith}
+use Rattle.std.proofs.Common.{◌≡◌, ◌+◌, sym, ap, ◌∙◌, arith}
 use Rattle.grammar.specs.declared.sizes.Size.{Size}
-use Rattle.grammar.specs.Text.{rest, number}
+use Rattle.grammar.specs.Text.{rest}
 use Rattle.grammar.specs.Scan.{go, at, leaf_by}
 use Rattle.grammar.proofs.Runs.{number_less}
 use Rattle.grammar.proofs.scan.leaf.Goals as goal

@@ -1,6 +1,6 @@
-use Rattle.std.proofs.Common.{◌≡◌, length, sym, refl, ap, ◌∙◌, subst, arith, length-drop}
+use Rattle.std.proofs.Common.{length, sym, refl, ap, ◌∙◌, subst, arith, length-drop}
 use Rattle.grammar.specs.Text.{rest}
-use Rattle.grammar.specs.Scan.{ok, no, Room}
+use Rattle.grammar.specs.Scan.{ok, Room}
 use Rattle.grammar.proofs.Runs.{go_on, stops, fails, step_less}
 use Rattle.grammar.proofs.Sound.{scanned_is}
 use Rattle.grammar.proofs.scan.scan.Goals as goal

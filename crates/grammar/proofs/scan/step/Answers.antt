@@ -1,4 +1,4 @@
-use Rattle.std.proofs.Common.{◌≡◌, ℕ, List, sym, refl, ap, ◌∙◌}
+use Rattle.std.proofs.Common.{ap, ◌∙◌}
 use Rattle.grammar.specs.Text.{rest}
 use Rattle.grammar.specs.Scan.{step_at, step}
 use Rattle.grammar.proofs.Steps.{user_step_lem, another_step}

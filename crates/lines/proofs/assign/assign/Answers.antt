@@ -1,8 +1,7 @@
-use Rattle.std.proofs.Common.{◌≡◌, true, false, length, drop, sym, refl, ap, ◌∙◌, subst, arith}
+use Rattle.std.proofs.Common.{true, false, ◌∙◌, arith}
 use Rattle.lines.specs.declared.keyword.Keyword.TheVariants.{Assign}
-use Rattle.lines.specs.Clauses.{Conditions}
 use Rattle.lines.specs.Lines.{Means, says_assign}
-use Rattle.lines.proofs.Assigning.{assign_syntax, assign_verdict, assign_built, assign_told, admin_small, from_text}
+use Rattle.lines.proofs.Assigning.{assign_verdict, assign_built, assign_told, admin_small, from_text}
 use Rattle.lines.proofs.assign.assign.Goals as goal
 
 pub returns-in-Some-weigh : goal.returns-in-Some-weigh

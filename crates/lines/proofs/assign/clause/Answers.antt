@@ -1,4 +1,4 @@
-use Rattle.std.proofs.Common.{◌≡◌, Some, None, sym, refl, ◌∙◌, subst}
+use Rattle.std.proofs.Common.{Some, None, sym, refl, ◌∙◌, subst}
 use Rattle.grammar.specs.Text.{rest}
 use Rattle.grammar.specs.Scan.{Scanned}
 use Rattle.lines.specs.Clauses.{Clauses}
@@ -8,29 +8,29 @@ use Rattle.lines.proofs.assign.clause.Goals as goal
 pub returns-then-takes : goal.returns-then-takes
 returns-then-takes c = let t = c.if-takes.ensures in record { text = t.text; read = clause_true (rest c.args.r.now) _ t.read }
 
-pub returns-in-err-size : goal.returns-in-err-size
-returns-in-err-size c =
+pub returns-in_err-size : goal.returns-in_err-size
+returns-in_err-size c =
     let t = c.if-takes.ensures in
-    let k = c.in-err-size.ensures in
+    let k = c.in_err-size.ensures in
     record {
       text = k.text ∙ t.text;
-      read = subst (λ a. Clauses (rest c.args.r.now) a (rest c.scan.new.r)) (sym c.from-residual.ensures) (clause_none (rest c.args.r.now) _ t.read _ (subst (λ x. Scanned x None (rest c.scan.new.r)) (t.read.kept refl) k.told));
+      read = subst (λ a. Clauses (rest c.args.r.now) a (rest c.scan.new.r)) (sym c.from_residual.ensures) (clause_none (rest c.args.r.now) _ t.read _ (subst (λ x. Scanned x None (rest c.scan.new.r)) (t.read.kept refl) k.told));
     }
 
 pub returns-then-size : goal.returns-then-size
 returns-then-size c =
     let t = c.if-takes.ensures in
-    let k = c.in-ok-size.ensures in
+    let k = c.in_ok-size.ensures in
     record {
       text = k.text ∙ t.text;
-      read = clause_set (rest c.args.r.now) _ t.read c.in-ok-size.size _ (subst (λ x. Scanned x (Some c.in-ok-size.size) (rest c.scan.new.r)) (t.read.kept refl) k.told) c.if-size.true;
+      read = clause_set (rest c.args.r.now) _ t.read c.in_ok-size.size _ (subst (λ x. Scanned x (Some c.in_ok-size.size) (rest c.scan.new.r)) (t.read.kept refl) k.told) c.if-size.true;
     }
 
 pub returns-else-size : goal.returns-else-size
 returns-else-size c =
     let t = c.if-takes.ensures in
-    let k = c.in-ok-size.ensures in
+    let k = c.in_ok-size.ensures in
     record {
       text = k.text ∙ t.text;
-      read = clause_others (rest c.args.r.now) _ t.read c.in-ok-size.size _ (subst (λ x. Scanned x (Some c.in-ok-size.size) (rest c.scan.new.r)) (t.read.kept refl) k.told) c.if-size.false;
+      read = clause_others (rest c.args.r.now) _ t.read c.in_ok-size.size _ (subst (λ x. Scanned x (Some c.in_ok-size.size) (rest c.scan.new.r)) (t.read.kept refl) k.told) c.if-size.false;
     }

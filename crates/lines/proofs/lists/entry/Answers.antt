@@ -1,4 +1,4 @@
-use Rattle.std.proofs.Common.{◌≡◌, sym, ap, ◌∙◌}
+use Rattle.std.proofs.Common.{◌∙◌}
 use Rattle.grammar.specs.Text.{rest, number}
 use Rattle.lines.specs.Entries.{after, entry_at}
 use Rattle.lines.proofs.Entering.{after_take, after_not}

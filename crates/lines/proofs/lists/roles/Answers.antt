@@ -1,4 +1,4 @@
-use Rattle.std.proofs.Common.{◌≡◌, [], ◌∷◌, ◌++◌, length, sym, refl, ap, ◌∙◌, subst, inl, inr, arith}
+use Rattle.std.proofs.Common.{[], ◌∷◌, ◌++◌, sym, refl, ◌∙◌, subst, inl, inr}
 use Rattle.grammar.specs.Text.{rest}
 use Rattle.lines.specs.Lists.{Noted, Listed}
 use Rattle.lines.proofs.Entering.{nil_is, nil_no, entry_less}
@@ -9,26 +9,26 @@ use Rattle.lines.proofs.lists.roles.Goals as goal
 pub entries-init : goal.entries-init
 entries-init c = ([], walk_start 114 _, note_start _ c.empty.ensures, inl refl, refl)
 
-pub returns-in-err-number : goal.returns-in-err-number
-returns-in-err-number c =
+pub returns-in_err-number : goal.returns-in_err-number
+returns-in_err-number c =
     let i = c.entries.invariant in
     record {
-      text = c.in-err-number.ensures.text ∙ i.4;
-      read = subst (Listed 114 Noted (rest c.args.r.now)) (sym c.from-residual.ensures)
-          (listed_none Noted 114 _ (walk_none 114 _ (rest c.entries.r) i.0 i.1 c.in-err-number.ensures.read i.3));
+      text = c.in_err-number.ensures.text ∙ i.4;
+      read = subst (Listed 114 Noted (rest c.args.r.now)) (sym c.from_residual.ensures)
+          (listed_none Noted 114 _ (walk_none 114 _ (rest c.entries.r) i.0 i.1 c.in_err-number.ensures.read i.3));
     }
 
 pub returns-then-ended : goal.returns-then-ended
 returns-then-ended c =
     let i = c.entries.invariant in
-    let n = c.in-ok-number.number in
-    record { text = c.in-ok-number.ensures.text ∙ i.4; read = walk_end Noted 114 _ (rest c.entry.new.r) i.0 n _ (walk_more 114 _ (rest c.entries.r) (rest c.entry.new.r) i.0 n i.1 c.in-ok-number.ensures.read) (nil_is _ (sym c.ended.ensures ∙ c.if-ended.true)) (c.with-names.ensures i.0 i.2) }
+    let n = c.in_ok-number.number in
+    record { text = c.in_ok-number.ensures.text ∙ i.4; read = walk_end Noted 114 _ (rest c.entry.new.r) i.0 n _ (walk_more 114 _ (rest c.entries.r) (rest c.entry.new.r) i.0 n i.1 c.in_ok-number.ensures.read) (nil_is _ (sym c.ended.ensures ∙ c.if-ended.true)) (c.with-names.ensures i.0 i.2) }
 
 pub entries-smaller : goal.entries-smaller
-entries-smaller c = entry_less 114 (rest c.entries.r) (rest c.entry.new.r) c.in-ok-number.number c.in-ok-number.ensures.read
+entries-smaller c = entry_less 114 (rest c.entries.r) (rest c.entry.new.r) c.in_ok-number.number c.in_ok-number.ensures.read
 
 pub entries-preserved : goal.entries-preserved
 entries-preserved c =
     let i = c.entries.invariant in
-    let n = c.in-ok-number.number in
-    (i.0 ++ n ∷ [], walk_more 114 _ (rest c.entries.r) (rest c.entry.new.r) i.0 n i.1 c.in-ok-number.ensures.read, c.with-names.ensures i.0 i.2, inr (nil_no _ (sym c.ended.ensures ∙ c.if-ended.false)), c.in-ok-number.ensures.text ∙ i.4)
+    let n = c.in_ok-number.number in
+    (i.0 ++ n ∷ [], walk_more 114 _ (rest c.entries.r) (rest c.entry.new.r) i.0 n i.1 c.in_ok-number.ensures.read, c.with-names.ensures i.0 i.2, inr (nil_no _ (sym c.ended.ensures ∙ c.if-ended.false)), c.in_ok-number.ensures.text ∙ i.4)

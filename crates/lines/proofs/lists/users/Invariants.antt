@@ -1,4 +1,4 @@
-use Rattle.std.proofs.Common.{◌≡◌, ℕ, ◌≤◌, ◌⊎◌, List, [], length}
+use Rattle.std.proofs.Common.{◌≡◌, ℕ, ◌⊎◌, List, [], length}
 use Rattle.grammar.specs.Text.{rest}
 use Rattle.lines.specs.Lists.{Seen}
 use Rattle.lines.proofs.Walking.{Walk}

@@ -1,4 +1,4 @@
-use Rattle.std.proofs.Common.{◌≡◌, [], codes, sym, refl, ◌∙◌, arith}
+use Rattle.std.proofs.Common.{[], refl, ◌∙◌, arith}
 use Rattle.lines.specs.Lines.{Means, says_rh}
 use Rattle.lines.specs.declared.keyword.Keyword.TheVariants.{Rh}
 use Rattle.lines.proofs.Rowing.{row_syntax, row_range_number, row_range_roles, row_fine, row_told, untrue, true_then}

@@ -1,4 +1,4 @@
-use Rattle.std.proofs.Common.{◌≡◌, Some, None, sym, refl, ◌∙◌}
+use Rattle.std.proofs.Common.{Some, None, refl}
 use Rattle.grammar.specs.Text.{rest}
 use Rattle.lines.proofs.Siding.{left_built, right_built}
 use Rattle.lines.proofs.sides.build.Goals as goal

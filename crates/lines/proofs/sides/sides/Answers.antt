@@ -1,5 +1,4 @@
-use Rattle.std.proofs.Common.{◌≡◌, true, false, sym, refl, ap, ◌∙◌, subst}
-use Rattle.grammar.specs.Text.{rest}
+use Rattle.std.proofs.Common.{true, false}
 use Rattle.lines.proofs.Siding.{two_syntax, two_verdict, two_told, two_built, from_text}
 use Rattle.lines.proofs.sides.sides.Goals as goal
 

@@ -1,4 +1,4 @@
-use Rattle.std.proofs.Common.{◌≡◌, sym, ◌∙◌, arith}
+use Rattle.std.proofs.Common.{sym, ◌∙◌, arith}
 use Rattle.pen.proofs.Naming.{names_here, names_next, names_end}
 use Rattle.pen.proofs.lists.names.Goals as goal
 

@@ -1,9 +1,8 @@
-use Rattle.std.proofs.Common.{◌≡◌, List, [], ◌∷◌, ◌++◌, length, sym, refl, ap, ◌∙◌, subst, arith, length-append}
+use Rattle.std.proofs.Common.{sym, ap, ◌∙◌}
 use Rattle.pen.proofs.Join.{join, to}
 use Rattle.policy.specs.Sets.{union, intersection}
 use Rattle.trees.specs.Reading.{postfix}
 use Rattle.trees.specs.declared.nodes.Node.TheVariants.{Or, And}
-use Rattle.pen.specs.declared.spot.Spot.TheVariants.{Set, Term, Factor}
 use Rattle.pen.specs.Texts.{written}
 use Rattle.pen.proofs.Shapes.{sides, front_is, root_is, is_or, is_and, leaf_is, or_alone, or_other, and_tight, and_other, none_of}
 use Rattle.pen.proofs.write.+meet_union_write.Goals as goal
@@ -53,5 +52,5 @@ write-returns-else-tight t c u e =
     to _ _ _ _ (and_other s.0 s.1 c.args.spot (sym c.tight.ensures ∙ c.if-tight.false) ∙ ap (written c.args.spot) (sym s.2))
     (c.meet-else-tight.ensures s.0 s.1 (e ∙ ap postfix s.2))
 
-pub write-returns-in-default : goal.write-returns-in-default
-write-returns-in-default t c u e = to _ _ _ _ (leaf_is u _ c.args.spot (root_is _ u e) c.in-default.not-Or c.in-default.not-And) c.operand.ensures
+pub write-returns-in_default : goal.write-returns-in_default
+write-returns-in_default t c u e = to _ _ _ _ (leaf_is u _ c.args.spot (root_is _ u e) c.in_default.not-Or c.in_default.not-And) c.operand.ensures

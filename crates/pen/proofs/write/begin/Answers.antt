@@ -1,4 +1,4 @@
-use Rattle.std.proofs.Common.{◌≡◌, [], ◌∷◌, length, sym, refl, ap, ◌∙◌, subst, arith}
+use Rattle.std.proofs.Common.{◌≡◌, [], ◌∷◌, length, sym, refl, ◌∙◌, subst, arith}
 use Rattle.std.proofs.lemmas.List.{take_all}
 use Rattle.trees.specs.declared.nodes.Node.TheVariants.{Or, And}
 use Rattle.pen.proofs.Shapes.{back, two_or, two_and, no_kids, at_end, not_empty, Left}
@@ -36,7 +36,7 @@ loop-need-preserved c =
       omega arith,
       λ front t e.
           let b = back c.args.nodes.now c.loop-need.i c.loop-need.need _ c.if-i-gt0.true i.0 c.loop-need-test.true refl front (i.2 front t e) in
-          let k = no_kids b.0 _ b.2 c.in-default.not-Or c.in-default.not-And in
+          let k = no_kids b.0 _ b.2 c.in_default.not-Or c.in_default.not-And in
           (b.1, omega (arith, b.3), b.4),
     )
 

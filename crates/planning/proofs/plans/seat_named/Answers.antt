@@ -1,13 +1,13 @@
-use Rattle.std.proofs.Common.{◌≡◌, ℕ, ◌+◌, ◌<◌, ◌≤◌, Bool, true, false, ◌||◌, T, [], ◌∷◌, length, get_or, take, drop, sym, refl, ap, ◌∙◌, subst, arith}
+use Rattle.std.proofs.Common.{◌≡◌, ◌+◌, ◌≤◌, ◌||◌, [], ◌∷◌, length, get_or, take, drop, sym, ap, ◌∙◌, arith}
 use Rattle.policy.specs.Tests.{listed}
-use Rattle.policy.proofs.Tests.{as_true, as_test, or_left}
+use Rattle.policy.proofs.Tests.{as_true, as_test}
 use Rattle.trees.specs.declared.nodes.Node.TheVariants.{Role}
 use Rattle.planning.specs.Seats.{seated, users_in}
 use Rattle.planning.proofs.Named.{next_node, no_node, node_count, node_shift, or_off}
 use Rattle.planning.proofs.plans.seat_named.Goals as goal
 
-pub seat-node-requires : goal.seat-node-requires
-seat-node-requires c =
+pub seat_node-requires : goal.seat_node-requires
+seat_node-requires c =
     let at = c.args.set.now.nodes.at in
     let len = c.args.set.now.nodes.len in
     let i = c.loop-i.i in
@@ -29,17 +29,17 @@ loop-i-preserved c =
     let n = get_or at i (Role 0) in
     let rest = drop (i + 1) (take len at) in
     let x = c.loop-i.plan in
-    let y = c.seat-node.new.plan in
+    let y = c.seat_node.new.plan in
     let short : len ≤ length at = omega (arith, c.args.set.now.nodes.full, c.args.set.now.nodes.ok) in
     let here = next_node at len i (Role 0) short c.loop-i-test.true in
     let e : length (users_in (drop i (take len at))) ≡ length (users_in (n ∷ [])) + length (users_in rest) =
     ap (λ ns. length (users_in ns)) here ∙ node_count n rest in (
-      c.seat-node.ensures.after,
-      omega (arith, c.loop-i.invariant.1, c.seat-node.ensures.few),
-      (λ v. node_shift n rest v (seated y.users y.len v) (seated x.users x.len v) (c.seat-node.ensures.more v)
+      c.seat_node.ensures.after,
+      omega (arith, c.loop-i.invariant.1, c.seat_node.ensures.few),
+      (λ v. node_shift n rest v (seated y.users y.len v) (seated x.users x.len v) (c.seat_node.ensures.more v)
           ∙ ap (λ ns. seated x.users x.len v || listed (users_in ns) v) (sym here) ∙ c.loop-i.invariant.2 v),
-      (λ v h. c.seat-node.ensures.more v ∙ ap (λ b. b || listed (users_in (n ∷ [])) v) (c.loop-i.invariant.3 v h)),
-      c.seat-node.ensures.masks ∙ c.loop-i.invariant.4,
+      (λ v h. c.seat_node.ensures.more v ∙ ap (λ b. b || listed (users_in (n ∷ [])) v) (c.loop-i.invariant.3 v h)),
+      c.seat_node.ensures.masks ∙ c.loop-i.invariant.4,
     )
 
 pub returns : goal.returns

@@ -1,4 +1,4 @@
-use Rattle.std.proofs.Common.{◌≡◌, ℕ, ◌+◌, ◌<◌, ◌≤◌, true, ◌||◌, length, drop}
+use Rattle.std.proofs.Common.{◌≡◌, ℕ, ◌+◌, ◌≤◌, true, ◌||◌, length, drop}
 use Rattle.policy.specs.Tests.{listed}
 use Rattle.trees.specs.Reading.{listed as nodes_of}
 use Rattle.tables.specs.View.{state_of, policy_of}

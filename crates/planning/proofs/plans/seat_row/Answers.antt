@@ -1,4 +1,4 @@
-use Rattle.std.proofs.Common.{◌≡◌, refl, arith}
+use Rattle.std.proofs.Common.{refl, arith}
 use Rattle.planning.specs.Seats.{seated}
 use Rattle.planning.proofs.Named.{row_empty, row_more, used_if}
 use Rattle.planning.proofs.plans.seat_row.Goals as goal
@@ -7,13 +7,13 @@ pub seat-requires : goal.seat-requires
 seat-requires c = record {
   room = c.requires.room;
   before = c.requires.before;
-  row = λ small new. c.requires.row (used_if c.args.row c.is-empty.result c.is-empty.ensures c.if-is-empty.false) small;
+  row = λ small new. c.requires.row (used_if c.args.row c.is_empty.result c.is_empty.ensures c.if-is_empty.false) small;
 }
 
-pub returns-then-is-empty : goal.returns-then-is-empty
-returns-then-is-empty c = record {
+pub returns-then-is_empty : goal.returns-then-is_empty
+returns-then-is_empty c = record {
   after = c.requires.before;
-  more = row_empty c.args.row c.args.plan.now.users c.args.plan.now.len (c.is-empty.ensures.0 c.if-is-empty.true);
+  more = row_empty c.args.row c.args.plan.now.users c.args.plan.now.len (c.is_empty.ensures.0 c.if-is_empty.true);
   few = omega arith;
   masks = refl;
 }
@@ -24,7 +24,7 @@ returns c =
     let y = c.seat.new.plan in
     record {
       after = c.seat.ensures.after;
-      more = λ v. row_more c.args.row v (seated y.users y.len v) (seated x.users x.len v) (used_if c.args.row c.is-empty.result c.is-empty.ensures c.if-is-empty.false) (c.seat.ensures.more v);
+      more = λ v. row_more c.args.row v (seated y.users y.len v) (seated x.users x.len v) (used_if c.args.row c.is_empty.result c.is_empty.ensures c.if-is_empty.false) (c.seat.ensures.more v);
       few = c.seat.ensures.few;
       masks = c.seat.ensures.masks;
     }

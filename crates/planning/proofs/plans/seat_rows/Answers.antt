@@ -1,4 +1,4 @@
-use Rattle.std.proofs.Common.{◌≡◌, ℕ, ◌+◌, ◌<◌, ◌≤◌, T, length, Decides, sym, refl, ap, ◌∙◌, subst, arith}
+use Rattle.std.proofs.Common.{◌≡◌, ◌<◌, length, Decides, sym, refl, ap, ◌∙◌, subst, arith}
 use mathlib.Core.Path.{subst⁻¹}
 use Rattle.rbac.specs.Roles.{roles_of}
 use Rattle.tables.specs.View.{state_of, policy_of}
@@ -17,8 +17,8 @@ loop-i-init c =
       refl,
     )
 
-pub seat-row-requires : goal.seat-row-requires
-seat-row-requires c = record {
+pub seat_row-requires : goal.seat_row-requires
+seat_row-requires c = record {
   room = omega (arith, c.loop-i.invariant.1, c.requires.all);
   before = c.loop-i.invariant.0;
   row =
@@ -29,11 +29,11 @@ seat-row-requires c = record {
 pub loop-i-preserved : goal.loop-i-preserved
 loop-i-preserved c =
     let x = c.loop-i.plan in
-    let y = c.seat-row.new.plan in (
-      c.seat-row.ensures.after,
-      omega (arith, c.seat-row.ensures.few, c.loop-i.invariant.1),
-      (λ v. rowed_more c.args.list.now c.loop-i.i v (seated x.users x.len v) (seated y.users y.len v) (c.loop-i.invariant.2 v) (c.seat-row.ensures.more v)),
-      c.seat-row.ensures.masks ∙ c.loop-i.invariant.3,
+    let y = c.seat_row.new.plan in (
+      c.seat_row.ensures.after,
+      omega (arith, c.seat_row.ensures.few, c.loop-i.invariant.1),
+      (λ v. rowed_more c.args.list.now c.loop-i.i v (seated x.users x.len v) (seated y.users y.len v) (c.loop-i.invariant.2 v) (c.seat_row.ensures.more v)),
+      c.seat_row.ensures.masks ∙ c.loop-i.invariant.3,
     )
 
 pub returns : goal.returns

@@ -8,7 +8,7 @@ use Rattle.planning.proofs.ranks.above.Goals as goal
 use Rattle.planning.proofs.ranks.above.Goals.{then-contains, else-contains}
 
 pub loop-q-init : goal.loop-q-init
-loop-q-init c = λ k. nothing c.from-word-set.result c.from-word-set.ensures k
+loop-q-init c = λ k. nothing c.from_word-set.result c.from_word-set.ensures k
     ∙ sym (ap (λ b. b && roles_of (get_or c.args.below.now k no_roles) c.args.junior.number) (le-ltb k 0 (omega arith)))
 
 pub loop-q-preserved : goal.loop-q-preserved

@@ -1,4 +1,4 @@
-use Rattle.std.proofs.Common.{◌≡◌, ℕ, ◌+◌, Decides, sym, ap, ◌∙◌}
+use Rattle.std.proofs.Common.{ℕ, ◌+◌, Decides, sym, ap, ◌∙◌}
 use mathlib.Core.Path.{subst⁻¹}
 use Rattle.rbac.specs.Roles.{roles_of}
 use Rattle.planning.proofs.Ranking.{Given, given_none, given_in, given_out}
@@ -6,7 +6,7 @@ use Rattle.planning.proofs.ranks.givers_of.Goals as goal
 use Rattle.planning.proofs.ranks.givers_of.Goals.{then-contains, else-contains}
 
 pub loop-r-init : goal.loop-r-init
-loop-r-init c = given_none c.args.set c.args.seniors.now c.from-word-givers.result c.from-word-givers.ensures
+loop-r-init c = given_none c.args.set c.args.seniors.now c.from_word-givers.result c.from_word-givers.ensures
 
 pub loop-r-preserved : goal.loop-r-preserved
 loop-r-preserved c =

@@ -1,4 +1,4 @@
-use Rattle.std.proofs.Common.{◌≡◌, ℕ, length, Decides, ◌∙◌, subst, arith, length-set, rules}
+use Rattle.std.proofs.Common.{ℕ, Decides, ◌∙◌, subst, arith, length-set}
 use Rattle.policy.specs.Membership.{Senior}
 use Rattle.rbac.specs.Roles.{roles_of}
 use Rattle.hierarchy.specs.Edges.{edges_of, no_roles}

@@ -1,4 +1,4 @@
-use Rattle.std.proofs.Common.{◌≡◌, ℕ, length, get_or, ap, ◌∙◌, arith, length-set}
+use Rattle.std.proofs.Common.{◌≡◌, ℕ, get_or, ap, ◌∙◌, arith, length-set}
 use Rattle.rbac.specs.Roles.{roles_of}
 use Rattle.hierarchy.specs.Edges.{no_roles}
 use Rattle.planning.proofs.Ranking.{filled}

@@ -1,4 +1,4 @@
-use Rattle.std.proofs.Common.{◌≡◌, ℕ, ◌<◌, get_or}
+use Rattle.std.proofs.Common.{◌≡◌, ℕ, ◌<◌}
 use Rattle.deciding.specs.Delegates.{user_at}
 use Rattle.planning.proofs.seats.contains.Given as goal
 

@@ -1,4 +1,4 @@
-use Rattle.std.proofs.Common.{◌≡◌, length, take, sym, ap, ◌∙◌, arith, length-take}
+use Rattle.std.proofs.Common.{take, ap, ◌∙◌, arith, length-take}
 use Rattle.tables.specs.View.{names}
 use Rattle.planning.proofs.Seating.{take_some}
 use Rattle.planning.proofs.seats.trusts.Goals as goal

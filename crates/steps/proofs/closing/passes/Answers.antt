@@ -1,6 +1,6 @@
-use Rattle.std.proofs.Common.{◌≡◌, ◌<◌, length, sym, subst, arith, rules}
+use Rattle.std.proofs.Common.{◌<◌, length, sym, subst, arith, rules}
 use Rattle.words.specs.Words.{bits}
-use Rattle.steps.proofs.Stage.{Stage, stage_none, stage_le, stage_room}
+use Rattle.steps.proofs.Stage.{stage_none, stage_le, stage_room}
 use Rattle.steps.proofs.Passing.{Gone, gone_passed, gone_taken}
 use Rattle.steps.proofs.Derives.{exactly}
 use Rattle.steps.proofs.closing.passes.Goals as goal
@@ -21,8 +21,8 @@ attempt-requires g c =
       room = λ fresh. omega (arith, c.requires.places, stage_room Y _ _ (g.S.StepSystem.lawful x) _ _ _ st c.pass.step lt fresh);
     }
 
-pub overflow-add-taken : goal.overflow-add-taken
-overflow-add-taken g c =
+pub overflow_add-taken : goal.overflow_add-taken
+overflow_add-taken g c =
     let x = c.args.system.now in
     let Y = g.S.StepSystem.means x in
     let lt : c.pass.step < Y.steps = omega (arith, c.steps-steps.ensures, c.pass-test.true) in

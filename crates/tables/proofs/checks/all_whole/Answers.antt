@@ -13,15 +13,15 @@ loop-rule-preserved c k d l =
     let rules = c.args.rules.now in
     let i = c.loop-rule.rule-index in
     below_more (λ j. Whole (get_or rules j d).needs) i (λ j h. c.loop-rule.invariant j d h)
-    (subst (λ (x : AssignEntry). Whole x.needs) (get_or_read rules i c.rule-item.result c.loop-rule-test.true c.rule-item.is d) (c.is-whole.ensures.0 c.if-not-is-whole.false)) k l
+    (subst (λ (x : AssignEntry). Whole x.needs) (get_or_read rules i c.rule-item.result c.loop-rule-test.true c.rule-item.is d) (c.is_whole.ensures.0 c.if-not-is_whole.false)) k l
 
-pub returns-then-not-is-whole : goal.returns-then-not-is-whole
-returns-then-not-is-whole c =
+pub returns-then-not-is_whole : goal.returns-then-not-is_whole
+returns-then-not-is_whole c =
     let rules = c.args.rules.now in
     let i = c.loop-rule.rule-index in (
       λ e. absurd (false≢true e),
-      λ all. absurd (both_ways c.is-whole.result c.if-not-is-whole.true
-          (c.is-whole.ensures.1 (subst⁻¹ (λ (x : AssignEntry). Whole x.needs) c.rule-item.is (all (suc i) (get_or rules i c.rule-item.result) (nth_at c.rule-item.result rules i c.loop-rule-test.true))))),
+      λ all. absurd (both_ways c.is_whole.result c.if-not-is_whole.true
+          (c.is_whole.ensures.1 (subst⁻¹ (λ (x : AssignEntry). Whole x.needs) c.rule-item.is (all (suc i) (get_or rules i c.rule-item.result) (nth_at c.rule-item.result rules i c.loop-rule-test.true))))),
     )
 
 pub returns : goal.returns

@@ -1,11 +1,11 @@
-use Rattle.std.proofs.Common.{◌≡◌, ℕ, ◌+◌, ◌*◌, ◌/◌, ◌<◌, Bool, true, false, ltb, length, MatchBool, sym, refl, ap, ◌∙◌, subst, arith, lt-ltb}
+use Rattle.std.proofs.Common.{◌≡◌, ◌+◌, ◌*◌, ◌/◌, ◌<◌, Bool, true, false, length, MatchBool, sym, refl, ap, ◌∙◌, arith, lt-ltb}
 use mathlib.Core.Bool.{false≢true}
 use mathlib.Core.Path.{subst⁻¹}
 use Rattle.words.specs.Words.{bits, with}
 use Rattle.policy.specs.Measures.{users}
 use Rattle.tables.proofs.Marking.{Marked, none_marked, row_free, row_marked, marked_twice, all_marked}
 use Rattle.tables.proofs.checks.apart_in.Goals as goal
-use Rattle.tables.proofs.checks.apart_in.Goals.{in-Some+else-has, in-default}
+use Rattle.tables.proofs.checks.apart_in.Goals.{in-Some+else-has, in_default}
 
 put_when : (b : Bool) (P Q : Type 0) → b ≡ true → MatchBool b P Q → P
 put_when true P Q e h = h
@@ -29,8 +29,8 @@ loop-row-preserved c =
                 (row_marked rows i (bits c.loop-row.seen) c.loop-row.invariant.0 n w.in-Some.ensures.0 w.in-Some.ensures.1 (sym w.has.ensures ∙ w.if-has.false)),
             ap (λ m. m * 64) c.match-holder.auto.seen ∙ long,
           )
-      | in-default w ↦ (
-        subst⁻¹ (λ (s : _). Marked rows (i + 1) (bits s)) w.seen-is (row_free rows i (bits c.loop-row.seen) c.loop-row.invariant.0 w.in-default.ensures),
+      | in_default w ↦ (
+        subst⁻¹ (λ (s : _). Marked rows (i + 1) (bits s)) w.seen-is (row_free rows i (bits c.loop-row.seen) c.loop-row.invariant.0 w.in_default.ensures),
         ap (λ s. length s * 64) w.seen-is ∙ c.loop-row.invariant.1,
       )
     ]

@@ -1,4 +1,4 @@
-use Rattle.std.proofs.Common.{◌≡◌, ℕ, ◌+◌, ◌<◌, true, length, take, ap, ◌∙◌, subst, arith, below_more}
+use Rattle.std.proofs.Common.{◌≡◌, ℕ, ◌<◌, true, length, take, ap, ◌∙◌, subst, arith, below_more}
 use Rattle.std.proofs.lemmas.List.{take_all, get_or_default}
 use Rattle.std.proofs.lemmas.Bool.{both_ways}
 use Rattle.policy.specs.Measures.{users}
@@ -8,7 +8,7 @@ use Rattle.tables.specs.Valid.{row_at, no_row}
 use Rattle.tables.proofs.Listing.{any}
 use Rattle.tables.proofs.Naming.{counted, nothing_new, row_roles, held_told}
 use Rattle.tables.proofs.regime.held_in.Goals as goal
-use Rattle.tables.proofs.regime.held_in.Goals.{in-Some, in-default}
+use Rattle.tables.proofs.regime.held_in.Goals.{in-Some, in_default}
 
 pub loop-row-preserved : goal.loop-row-preserved
 loop-row-preserved c =
@@ -21,9 +21,9 @@ loop-row-preserved c =
         below_more (λ k. is_used (row_at rows k) ≡ true → (row_at rows k).user.number < users) i c.loop-row.invariant.1
             (λ _. subst (λ (n : ℕ). n < users) w.in-Some.ensures.1 w.in-Some.ensures.2),
       )
-      | in-default w ↦ (
-        λ r. ap (λ s. roles_of s r) w.held-is ∙ nothing_new rows i taken w.in-default.ensures (roles_of c.loop-row.held) c.loop-row.invariant.0 r,
-        below_more (λ k. is_used (row_at rows k) ≡ true → (row_at rows k).user.number < users) i c.loop-row.invariant.1 (λ used. absurd (both_ways (is_used (row_at rows i)) w.in-default.ensures used)),
+      | in_default w ↦ (
+        λ r. ap (λ s. roles_of s r) w.held-is ∙ nothing_new rows i taken w.in_default.ensures (roles_of c.loop-row.held) c.loop-row.invariant.0 r,
+        below_more (λ k. is_used (row_at rows k) ≡ true → (row_at rows k).user.number < users) i c.loop-row.invariant.1 (λ used. absurd (both_ways (is_used (row_at rows i)) w.in_default.ensures used)),
       )
     ]
 

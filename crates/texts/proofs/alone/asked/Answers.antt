@@ -1,4 +1,4 @@
-use Rattle.std.proofs.Common.{◌≡◌, true, Some, sym, refl, ◌∙◌, subst}
+use Rattle.std.proofs.Common.{true, Some, sym, subst}
 use Rattle.grammar.specs.Text.{rest}
 use Rattle.lines.specs.declared.keyword.Keyword.{Keyword}
 use Rattle.texts.specs.Words.{Starts}
@@ -20,5 +20,5 @@ returns-in-Necessary c =
     subst (λ a. Asked (rest c.args.r.now) a c.sides-in-Necessary.new.extra) (sym c.posed-in-Necessary.ensures)
     (necessary_answer (rest c.args.r.now) (rest c.begins.new.r) (subst (λ (k : Keyword). Starts (rest c.args.r.now) (Some k) (rest c.begins.new.r)) c.in-Necessary.is c.in-Some.ensures) c.sides-in-Necessary.result _ c.sides-in-Necessary.ensures)
 
-pub returns-in-default : goal.returns-in-default
-returns-in-default c = misplaced true _ (rest c.begins.new.r) c.in-Some.word c.in-Some.ensures (no_question c.in-Some.word c.in-default.not-Possible c.in-default.not-Necessary)
+pub returns-in_default : goal.returns-in_default
+returns-in_default c = misplaced true _ (rest c.begins.new.r) c.in-Some.word c.in-Some.ensures (no_question c.in-Some.word c.in_default.not-Possible c.in_default.not-Necessary)

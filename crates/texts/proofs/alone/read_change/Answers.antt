@@ -1,6 +1,4 @@
-use Rattle.std.proofs.Common.{arith}
-use Rattle.lines.specs.Lines.{questions}
-use Rattle.texts.specs.Answers.{Asks, Orders, changes}
+use Rattle.texts.specs.Answers.{Orders, changes}
 use Rattle.texts.proofs.Single.{too_long, line_fault, line_fine}
 use Rattle.texts.proofs.alone.read_change.Goals as goal
 

@@ -1,6 +1,5 @@
-use Rattle.std.proofs.Common.{arith}
 use Rattle.lines.specs.Lines.{questions}
-use Rattle.texts.specs.Answers.{Asks, Orders, changes}
+use Rattle.texts.specs.Answers.{Asks}
 use Rattle.texts.proofs.Single.{too_long, line_fault, line_fine}
 use Rattle.texts.proofs.alone.read_question.Goals as goal
 

@@ -1,4 +1,4 @@
-use Rattle.std.proofs.Common.{◌≡◌, ◌≤◌, ◌++◌, length, sym, refl, ap, ◌∙◌, arith, length-drop}
+use Rattle.std.proofs.Common.{◌++◌, sym, refl, ap, ◌∙◌, arith, length-drop}
 use borrow.Author.Tests.{clash}
 use Rattle.grammar.specs.Text.{rest}
 use Rattle.texts.specs.Board.{mark_line}

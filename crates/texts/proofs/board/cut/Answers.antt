@@ -1,4 +1,4 @@
-use Rattle.std.proofs.Common.{◌≡◌, length, sym, refl, ap, ◌∙◌, arith, length-drop}
+use Rattle.std.proofs.Common.{length, refl, ap, ◌∙◌, arith, length-drop}
 use Rattle.grammar.specs.Text.{run}
 use Rattle.std.proofs.lemmas.List.{take_rest}
 use Rattle.texts.specs.Board.{goes_on}
@@ -9,11 +9,11 @@ pub returns-then-end-r : goal.returns-then-end-r
 returns-then-end-r c =
     let t = c.args.r.now.text.now in
     let p = c.args.r.now.place in
-    record { text = refl; line = c.saturating-add-r.ensures; read = no_cut t p c.line-length.result c.args.r.now.within (c.line-length.ensures.whole ∙ ap (run goes_on) (take_rest t p)) c.if-end-r.true }
+    record { text = refl; line = c.saturating_add-r.ensures; read = no_cut t p c.line_length.result c.args.r.now.within (c.line_length.ensures.whole ∙ ap (run goes_on) (take_rest t p)) c.if-end-r.true }
 
 pub returns : goal.returns
 returns c =
     let t = c.args.r.now.text.now in
     let p = c.args.r.now.place in
     let d = length-drop p t in
-    record { text = refl; line = c.saturating-add-r.ensures; read = cut_off t p c.line-length.result c.args.r.now.within (c.line-length.ensures.whole ∙ ap (run goes_on) (take_rest t p)) c.if-end-r.false (let w = c.line-length.ensures.within in let q = ap length (take_rest t p) in omega (arith, c.args.r.now.within)) }
+    record { text = refl; line = c.saturating_add-r.ensures; read = cut_off t p c.line_length.result c.args.r.now.within (c.line_length.ensures.whole ∙ ap (run goes_on) (take_rest t p)) c.if-end-r.false (let w = c.line_length.ensures.within in let q = ap length (take_rest t p) in omega (arith, c.args.r.now.within)) }

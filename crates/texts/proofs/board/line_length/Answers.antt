@@ -1,4 +1,4 @@
-use Rattle.std.proofs.Common.{◌≡◌, not, ap, arith, eq-eqb, ne_eqb}
+use Rattle.std.proofs.Common.{not, ap, arith, eq-eqb, ne_eqb}
 use Rattle.grammar.proofs.Digits.{run_more, run_stop, run_end}
 use Rattle.texts.specs.Board.{goes_on}
 use Rattle.texts.proofs.board.line_length.Goals as goal

@@ -1,4 +1,4 @@
-use Rattle.std.proofs.Common.{◌≡◌, false, Some, None, sym, refl, subst}
+use Rattle.std.proofs.Common.{false, Some, sym, refl, subst}
 use borrow.Author.Tests.{clash}
 use Rattle.grammar.specs.Text.{rest}
 use Rattle.lines.specs.declared.keyword.Keyword.{Keyword}

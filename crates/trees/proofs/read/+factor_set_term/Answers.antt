@@ -1,4 +1,4 @@
-use Rattle.std.proofs.Common.{◌≡◌, length, sym, refl, ap, ◌∙◌, subst, arith}
+use Rattle.std.proofs.Common.{length, refl, ap, ◌∙◌, arith}
 use Rattle.trees.specs.declared.nodes.Node.TheVariants.{Or, And}
 use Rattle.grammar.specs.Text.{rest, begins}
 use Rattle.trees.specs.Reading.{listed, ok, bad, set_at, term_at, factor_at}
@@ -10,20 +10,20 @@ factor-returns-then-levels-eq0 t c =
     let k = passed _ _ _ 40 c.sign.ensures c.in-40.is (omega arith) c.skip.ensures.read in
     record { text = c.skip.ensures.text; read = opens _ _ _ _ _ k (inside_none _ _ _ c.if-levels-eq0.true); less = omega (arith, ap length k) }
 
-pub factor-returns-in-err-set : goal.factor-returns-in-err-set
-factor-returns-in-err-set t c =
+pub factor-returns-in_err-set-in-40 : goal.factor-returns-in_err-set-in-40
+factor-returns-in_err-set-in-40 t c =
     let k = passed _ _ _ 40 c.sign.ensures c.in-40.is (omega arith) c.skip.ensures.read in
-    let h = c.in-err-set.ensures in
+    let h = c.in_err-set-in-40.ensures in
     record {
       text = h.text ∙ c.skip.ensures.text;
-      read = exit _ _ _ _ _ c.from-residual.ensures.1 (opens _ _ _ _ _ k (inside_some _ _ _ c.if-levels-eq0.false ∙ h.read));
+      read = exit _ _ _ _ _ c.from_residual.ensures.1 (opens _ _ _ _ _ k (inside_some _ _ _ c.if-levels-eq0.false ∙ h.read));
       less = omega (arith, ap length k, h.less);
     }
 
 pub factor-returns-then-take : goal.factor-returns-then-take
 factor-returns-then-take t c =
     let k = passed _ _ _ 40 c.sign.ensures c.in-40.is (omega arith) c.skip.ensures.read in
-    let h = c.in-ok-set.ensures in
+    let h = c.in_ok-set-in-40.ensures in
     let l = c.if-take.ensures in
     record {
       text = l.text ∙ h.text ∙ c.skip.ensures.text;
@@ -34,7 +34,7 @@ factor-returns-then-take t c =
 pub factor-returns-else-take : goal.factor-returns-else-take
 factor-returns-else-take t c =
     let k = passed _ _ _ 40 c.sign.ensures c.in-40.is (omega arith) c.skip.ensures.read in
-    let h = c.in-ok-set.ensures in
+    let h = c.in_ok-set-in-40.ensures in
     let l = c.if-take.ensures in
     record {
       text = l.text ∙ h.text ∙ c.skip.ensures.text;
@@ -72,32 +72,32 @@ factor-returns-in-123 t c =
       less = omega (arith, ap length k, h.less);
     }
 
-pub factor-returns-in-default : goal.factor-returns-in-default
-factor-returns-in-default t c = record {
+pub factor-returns-in_default : goal.factor-returns-in_default
+factor-returns-in_default t c = record {
   text = refl;
   read = is_none c.args.levels (rest c.args.r.now) (listed c.args.out.now) (unlike (rest c.args.r.now) c.sign.result 40 c.sign.ensures (λ e. omega arith)) (unlike (rest c.args.r.now) c.sign.result 114 c.sign.ensures (λ e. omega arith)) (unlike (rest c.args.r.now) c.sign.result 112 c.sign.ensures (λ e. omega arith)) (unlike (rest c.args.r.now) c.sign.result 123 c.sign.ensures (λ e. omega arith));
   less = omega arith;
 }
 
-pub set-returns-in-err-term : goal.set-returns-in-err-term
+pub set-returns-in_err-term : goal.set-returns-in_err-term
 unfolding set_at
-set-returns-in-err-term t c =
-    let h = c.in-err-term.ensures in
-    record { text = h.text; read = exit _ _ _ _ _ c.from-residual.ensures.1 (first_bad 124 Or (term_at c.args.levels) (rest c.args.r.now) (listed c.args.out.now) h.read); less = h.less }
+set-returns-in_err-term t c =
+    let h = c.in_err-term.ensures in
+    record { text = h.text; read = exit _ _ _ _ _ c.from_residual.ensures.1 (first_bad 124 Or (term_at c.args.levels) (rest c.args.r.now) (listed c.args.out.now) h.read); less = h.less }
 
 pub set-terms-init : goal.set-terms-init
 set-terms-init t c = (refl, omega arith, (length (rest c.term.new.r), omega arith, refl))
 
-pub set-returns-in-err-term-2 : goal.set-returns-in-err-term-2
+pub set-returns-in_err-term-in-124 : goal.set-returns-in_err-term-in-124
 unfolding set_at
-set-returns-in-err-term-2 t c =
-    let g = c.in-ok-term.ensures in
+set-returns-in_err-term-in-124 t c =
+    let g = c.in_ok-term.ensures in
     let i = c.terms.invariant in
     let k = passed _ _ _ 124 c.sign.ensures c.in-124.is (omega arith) c.skip.ensures.read in
-    let h = c.in-err-term-2.ensures in
+    let h = c.in_err-term-in-124.ensures in
     record {
       text = h.text ∙ c.skip.ensures.text ∙ i.0 ∙ g.text;
-      read = exit _ _ _ _ _ c.from-residual-in-err-term-2.ensures.1 (first 124 Or (term_at c.args.levels) (rest c.args.r.now) (rest c.term.new.r) (listed c.args.out.now) (listed c.term.new.out) g.read ∙ i.2.2 ∙ turn_item 124 Or (term_at c.args.levels) i.2.0 (rest c.terms.r) (rest c.skip.new.self) (listed c.terms.out) k i.2.1 h.read);
+      read = exit _ _ _ _ _ c.from_residual-in_err-term-in-124.ensures.1 (first 124 Or (term_at c.args.levels) (rest c.args.r.now) (rest c.term.new.r) (listed c.args.out.now) (listed c.term.new.out) g.read ∙ i.2.2 ∙ turn_item 124 Or (term_at c.args.levels) i.2.0 (rest c.terms.r) (rest c.skip.new.self) (listed c.terms.out) k i.2.1 h.read);
       less = omega (arith, ap length k, h.less, g.less, i.1);
     }
 
@@ -105,27 +105,27 @@ pub set-terms-preserved : goal.set-terms-preserved
 set-terms-preserved t c =
     let i = c.terms.invariant in
     let k = passed _ _ _ 124 c.sign.ensures c.in-124.is (omega arith) c.skip.ensures.read in
-    let h = c.in-ok-term-2.ensures in
-    let n = turn 124 Or (term_at c.args.levels) i.2.0 (rest c.terms.r) (rest c.skip.new.self) (rest c.term-in-124.new.r) (listed c.terms.out) (listed c.term-in-124.new.out) (listed c.push.new.self) k i.2.1 h.less h.read (c.in-ok-push.ensures (rest c.term-in-124.new.r)) in
+    let h = c.in_ok-term-in-124.ensures in
+    let n = turn 124 Or (term_at c.args.levels) i.2.0 (rest c.terms.r) (rest c.skip.new.self) (rest c.term-in-124.new.r) (listed c.terms.out) (listed c.term-in-124.new.out) (listed c.push.new.self) k i.2.1 h.less h.read (c.in_ok-push-in-124.ensures (rest c.term-in-124.new.r)) in
     (h.text ∙ c.skip.ensures.text ∙ i.0, omega (arith, ap length k, h.less, i.1), (n.0, n.1, i.2.2 ∙ n.2))
 
-pub set-returns-in-err-push : goal.set-returns-in-err-push
+pub set-returns-in_err-push-in-124 : goal.set-returns-in_err-push-in-124
 unfolding set_at
-set-returns-in-err-push t c =
-    let g = c.in-ok-term.ensures in
+set-returns-in_err-push-in-124 t c =
+    let g = c.in_ok-term.ensures in
     let i = c.terms.invariant in
     let k = passed _ _ _ 124 c.sign.ensures c.in-124.is (omega arith) c.skip.ensures.read in
-    let h = c.in-ok-term-2.ensures in
+    let h = c.in_ok-term-in-124.ensures in
     record {
       text = h.text ∙ c.skip.ensures.text ∙ i.0 ∙ g.text;
-      read = exit _ _ _ _ _ c.from-residual-in-err-push.ensures.1 (first 124 Or (term_at c.args.levels) (rest c.args.r.now) (rest c.term.new.r) (listed c.args.out.now) (listed c.term.new.out) g.read ∙ i.2.2 ∙ turn_add 124 Or (term_at c.args.levels) i.2.0 (rest c.terms.r) (rest c.skip.new.self) (rest c.term-in-124.new.r) (listed c.terms.out) (listed c.term-in-124.new.out) k i.2.1 h.read (c.in-err-push.ensures (rest c.term-in-124.new.r)));
+      read = exit _ _ _ _ _ c.from_residual-in_err-push-in-124.ensures.1 (first 124 Or (term_at c.args.levels) (rest c.args.r.now) (rest c.term.new.r) (listed c.args.out.now) (listed c.term.new.out) g.read ∙ i.2.2 ∙ turn_add 124 Or (term_at c.args.levels) i.2.0 (rest c.terms.r) (rest c.skip.new.self) (rest c.term-in-124.new.r) (listed c.terms.out) (listed c.term-in-124.new.out) k i.2.1 h.read (c.in_err-push-in-124.ensures (rest c.term-in-124.new.r)));
       less = omega (arith, ap length k, h.less, g.less, i.1);
     }
 
-pub set-returns-in-default : goal.set-returns-in-default
+pub set-returns-in_default : goal.set-returns-in_default
 unfolding set_at
-set-returns-in-default t c =
-    let g = c.in-ok-term.ensures in
+set-returns-in_default t c =
+    let g = c.in_ok-term.ensures in
     let i = c.terms.invariant in
     record {
       text = i.0 ∙ g.text;
@@ -133,25 +133,25 @@ set-returns-in-default t c =
       less = omega (arith, g.less, i.1);
     }
 
-pub term-returns-in-err-factor : goal.term-returns-in-err-factor
+pub term-returns-in_err-factor : goal.term-returns-in_err-factor
 unfolding term_at
-term-returns-in-err-factor t c =
-    let h = c.in-err-factor.ensures in
-    record { text = h.text; read = exit _ _ _ _ _ c.from-residual.ensures.1 (first_bad 38 And (factor_at c.args.levels) (rest c.args.r.now) (listed c.args.out.now) h.read); less = h.less }
+term-returns-in_err-factor t c =
+    let h = c.in_err-factor.ensures in
+    record { text = h.text; read = exit _ _ _ _ _ c.from_residual.ensures.1 (first_bad 38 And (factor_at c.args.levels) (rest c.args.r.now) (listed c.args.out.now) h.read); less = h.less }
 
 pub term-factors-init : goal.term-factors-init
 term-factors-init t c = (refl, omega arith, (length (rest c.factor.new.r), omega arith, refl))
 
-pub term-returns-in-err-factor-2 : goal.term-returns-in-err-factor-2
+pub term-returns-in_err-factor-in-38 : goal.term-returns-in_err-factor-in-38
 unfolding term_at
-term-returns-in-err-factor-2 t c =
-    let g = c.in-ok-factor.ensures in
+term-returns-in_err-factor-in-38 t c =
+    let g = c.in_ok-factor.ensures in
     let i = c.factors.invariant in
     let k = passed _ _ _ 38 c.sign.ensures c.in-38.is (omega arith) c.skip.ensures.read in
-    let h = c.in-err-factor-2.ensures in
+    let h = c.in_err-factor-in-38.ensures in
     record {
       text = h.text ∙ c.skip.ensures.text ∙ i.0 ∙ g.text;
-      read = exit _ _ _ _ _ c.from-residual-in-err-factor-2.ensures.1 (first 38 And (factor_at c.args.levels) (rest c.args.r.now) (rest c.factor.new.r) (listed c.args.out.now) (listed c.factor.new.out) g.read ∙ i.2.2 ∙ turn_item 38 And (factor_at c.args.levels) i.2.0 (rest c.factors.r) (rest c.skip.new.self) (listed c.factors.out) k i.2.1 h.read);
+      read = exit _ _ _ _ _ c.from_residual-in_err-factor-in-38.ensures.1 (first 38 And (factor_at c.args.levels) (rest c.args.r.now) (rest c.factor.new.r) (listed c.args.out.now) (listed c.factor.new.out) g.read ∙ i.2.2 ∙ turn_item 38 And (factor_at c.args.levels) i.2.0 (rest c.factors.r) (rest c.skip.new.self) (listed c.factors.out) k i.2.1 h.read);
       less = omega (arith, ap length k, h.less, g.less, i.1);
     }
 
@@ -159,27 +159,27 @@ pub term-factors-preserved : goal.term-factors-preserved
 term-factors-preserved t c =
     let i = c.factors.invariant in
     let k = passed _ _ _ 38 c.sign.ensures c.in-38.is (omega arith) c.skip.ensures.read in
-    let h = c.in-ok-factor-2.ensures in
-    let n = turn 38 And (factor_at c.args.levels) i.2.0 (rest c.factors.r) (rest c.skip.new.self) (rest c.factor-in-38.new.r) (listed c.factors.out) (listed c.factor-in-38.new.out) (listed c.push.new.self) k i.2.1 h.less h.read (c.in-ok-push.ensures (rest c.factor-in-38.new.r)) in
+    let h = c.in_ok-factor-in-38.ensures in
+    let n = turn 38 And (factor_at c.args.levels) i.2.0 (rest c.factors.r) (rest c.skip.new.self) (rest c.factor-in-38.new.r) (listed c.factors.out) (listed c.factor-in-38.new.out) (listed c.push.new.self) k i.2.1 h.less h.read (c.in_ok-push-in-38.ensures (rest c.factor-in-38.new.r)) in
     (h.text ∙ c.skip.ensures.text ∙ i.0, omega (arith, ap length k, h.less, i.1), (n.0, n.1, i.2.2 ∙ n.2))
 
-pub term-returns-in-err-push : goal.term-returns-in-err-push
+pub term-returns-in_err-push-in-38 : goal.term-returns-in_err-push-in-38
 unfolding term_at
-term-returns-in-err-push t c =
-    let g = c.in-ok-factor.ensures in
+term-returns-in_err-push-in-38 t c =
+    let g = c.in_ok-factor.ensures in
     let i = c.factors.invariant in
     let k = passed _ _ _ 38 c.sign.ensures c.in-38.is (omega arith) c.skip.ensures.read in
-    let h = c.in-ok-factor-2.ensures in
+    let h = c.in_ok-factor-in-38.ensures in
     record {
       text = h.text ∙ c.skip.ensures.text ∙ i.0 ∙ g.text;
-      read = exit _ _ _ _ _ c.from-residual-in-err-push.ensures.1 (first 38 And (factor_at c.args.levels) (rest c.args.r.now) (rest c.factor.new.r) (listed c.args.out.now) (listed c.factor.new.out) g.read ∙ i.2.2 ∙ turn_add 38 And (factor_at c.args.levels) i.2.0 (rest c.factors.r) (rest c.skip.new.self) (rest c.factor-in-38.new.r) (listed c.factors.out) (listed c.factor-in-38.new.out) k i.2.1 h.read (c.in-err-push.ensures (rest c.factor-in-38.new.r)));
+      read = exit _ _ _ _ _ c.from_residual-in_err-push-in-38.ensures.1 (first 38 And (factor_at c.args.levels) (rest c.args.r.now) (rest c.factor.new.r) (listed c.args.out.now) (listed c.factor.new.out) g.read ∙ i.2.2 ∙ turn_add 38 And (factor_at c.args.levels) i.2.0 (rest c.factors.r) (rest c.skip.new.self) (rest c.factor-in-38.new.r) (listed c.factors.out) (listed c.factor-in-38.new.out) k i.2.1 h.read (c.in_err-push-in-38.ensures (rest c.factor-in-38.new.r)));
       less = omega (arith, ap length k, h.less, g.less, i.1);
     }
 
-pub term-returns-in-default : goal.term-returns-in-default
+pub term-returns-in_default : goal.term-returns-in_default
 unfolding term_at
-term-returns-in-default t c =
-    let g = c.in-ok-factor.ensures in
+term-returns-in_default t c =
+    let g = c.in_ok-factor.ensures in
     let i = c.factors.invariant in
     record {
       text = i.0 ∙ g.text;

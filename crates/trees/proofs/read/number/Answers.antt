@@ -1,5 +1,4 @@
-use Rattle.std.proofs.Common.{◌≡◌, ap, ◌∙◌, le-ltb, lt-ltb}
-use Rattle.grammar.specs.Text.{rest}
+use Rattle.std.proofs.Common.{ap, ◌∙◌, le-ltb, lt-ltb}
 use Rattle.std.proofs.lemmas.Bool.{cond-true, cond-false}
 use Rattle.trees.specs.Reading.{limited}
 use Rattle.grammar.proofs.Runs.{number_less}

@@ -1,5 +1,3 @@
-use Rattle.std.proofs.Common.{◌≡◌, ℕ, sym, ap, ◌∙◌, arith}
-use Rattle.grammar.specs.Text.{rest}
 use Rattle.trees.proofs.Build.{read_ok, read_bad}
 use Rattle.trees.proofs.read.side.Goals as goal
 

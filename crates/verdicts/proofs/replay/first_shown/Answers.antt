@@ -1,9 +1,9 @@
-use Rattle.std.proofs.Common.{◌≡◌, ℕ, suc, ◌+◌, ◌<◌, ◌≤◌, T, eqb, length, get_or, take, sym, ap, ◌∙◌, subst, add-one, arith, below_more}
+use Rattle.std.proofs.Common.{◌≡◌, ◌+◌, ◌<◌, T, eqb, length, take, sym, ap, ◌∙◌, subst, add-one, arith, below_more}
 use mathlib.Core.Path.{subst⁻¹}
 use Rattle.policy.specs.Runs.{after, end}
 use Rattle.planning.specs.Seats.{seated}
 use Rattle.tables.specs.View.{question_of, policy_of, state_of}
-use Rattle.verdicts.specs.Looking.{failing, Says, Sought, change_of, changes}
+use Rattle.verdicts.specs.Looking.{Says, Sought, change_of, changes}
 use Rattle.verdicts.proofs.Turning.{shows_is, shows_not, sitting_at, changes_more, beq_same, beq_off}
 use Rattle.verdicts.proofs.replay.first_shown.Goals as goal
 

@@ -1,4 +1,4 @@
-use Rattle.std.proofs.Common.{◌≡◌, ℕ, ◌+◌, ◌-◌, ◌<◌, ◌≤◌, length, take}
+use Rattle.std.proofs.Common.{◌≡◌, ℕ, ◌-◌, ◌<◌, ◌≤◌, length, take}
 use Rattle.policy.specs.Runs.{end}
 use Rattle.tables.specs.View.{question_of, policy_of, state_of}
 use Rattle.verdicts.specs.Looking.{failing, Says, Sought, changes}

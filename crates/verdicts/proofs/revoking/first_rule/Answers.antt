@@ -1,4 +1,4 @@
-use Rattle.std.proofs.Common.{◌≡◌, ℕ, suc, ◌+◌, ◌<◌, false, T, map, get_or, take, sym, refl, ap, ◌∙◌, subst, add-one, arith, below_more}
+use Rattle.std.proofs.Common.{◌≡◌, ◌+◌, false, map, get_or, take, sym, refl, ap, ◌∙◌, subst, add-one, arith, below_more}
 use mathlib.Core.Path.{subst⁻¹}
 use Rattle.policy.proofs.Tests.{as_test}
 use Rattle.rbac.specs.Roles.{roles_of}

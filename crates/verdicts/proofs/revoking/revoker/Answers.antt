@@ -3,4 +3,4 @@ use Rattle.verdicts.proofs.revoking.revoker.Goals as goal
 
 pub returns : goal.returns
 unfolding policy_of
-returns c = c.first-rule.ensures
+returns c = c.first_rule.ensures

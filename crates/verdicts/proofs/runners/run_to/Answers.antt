@@ -1,4 +1,4 @@
-use Rattle.std.proofs.Common.{◌≡◌, sym, refl}
+use Rattle.std.proofs.Common.{refl}
 use mathlib.Core.Path.{subst⁻¹}
 use Rattle.tables.specs.View.{policy_of, state_of, question_of}
 use Rattle.verdicts.specs.Candidates.{Candidate}

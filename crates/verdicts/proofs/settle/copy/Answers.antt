@@ -1,4 +1,4 @@
-use Rattle.std.proofs.Common.{◌≡◌, ◌∙◌, arith, length-set}
+use Rattle.std.proofs.Common.{◌∙◌, arith, length-set}
 use Rattle.verdicts.proofs.Copying.{copied, rest_kept}
 use Rattle.verdicts.proofs.settle.copy.Goals as goal
 

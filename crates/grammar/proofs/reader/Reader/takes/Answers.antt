@@ -1,4 +1,4 @@
-use Rattle.std.proofs.Common.{◌≡◌, false, drop, sym, ap, ◌∙◌, subst, arith}
+use Rattle.std.proofs.Common.{false, drop, sym, ◌∙◌, subst, arith}
 use Rattle.grammar.specs.Text.{rest}
 use Rattle.grammar.specs.Text.{Takes}
 use Rattle.grammar.proofs.Taking.{word_more, word_not, word_all}

@@ -1,4 +1,4 @@
-use Rattle.std.proofs.Common.{◌||◌, sym, refl, ap, ◌∙◌}
+use Rattle.std.proofs.Common.{◌||◌, sym, ap, ◌∙◌}
 use Rattle.lines.proofs.Naming.{note_new, note_none}
 use Rattle.lines.proofs.parts.Names.with.Goals as goal
 

@@ -8,13 +8,13 @@ pub returns : goal.returns
 returns c =
     elim c.if-self.branch [
       | then-self w ↦ record {
-        more = c.saturating-add-self.ensures ∙ ap (λ s. min (s.len + 1) top) w.self-is;
+        more = c.saturating_add-self.ensures ∙ ap (λ s. min (s.len + 1) top) w.self-is;
         placed = ap (λ s. s.place.now) w.self-is;
-        same = ap (λ s. s.place.name) w.self-is;
+        same = ap (λ s. s.place.ghost_name) w.self-is;
       }
       | else-self w ↦ record {
-        more = c.saturating-add-self.ensures ∙ ap (λ s. min (s.len + 1) top) w.self-is;
+        more = c.saturating_add-self.ensures ∙ ap (λ s. min (s.len + 1) top) w.self-is;
         placed = ap (λ s. s.place.now) w.self-is ∙ sym (set_past _ _ _ w.if-self.false);
-        same = ap (λ s. s.place.name) w.self-is;
+        same = ap (λ s. s.place.ghost_name) w.self-is;
       }
     ]

@@ -1,4 +1,4 @@
-use Rattle.std.proofs.Common.{◌≡◌, ℕ, ◌+◌, ◌-◌, ◌<◌, min, length, subst, arith, rules}
+use Rattle.std.proofs.Common.{◌≡◌, ℕ, ◌-◌, ◌<◌, length, subst, arith, rules}
 use Rattle.tables.proofs.Removing.{Moved, unmoved, one_on, all_moved}
 use Rattle.tables.proofs.bounded.Bounded.remove.Goals as goal
 

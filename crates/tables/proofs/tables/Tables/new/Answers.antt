@@ -4,8 +4,8 @@ use Rattle.tables.proofs.tables.Tables.new.Goals as goal
 
 pub returns : goal.returns
 returns c = record {
-  policy = policy_new _ c.blank-row.result c.empty.result refl c.blank-row.ensures refl c.empty.ensures refl c.new.ensures c.new-2.ensures c.new-3.ensures c.new-4.ensures;
-  state = state_new _ c.blank-row.result c.empty.result refl c.blank-row.ensures refl c.empty.ensures refl c.new.ensures c.new-2.ensures c.new-3.ensures c.new-4.ensures;
+  policy = policy_new _ c.blank_row.result c.empty.result refl c.blank_row.ensures refl c.empty.ensures refl c.new.ensures c.new-2.ensures c.new-3.ensures c.new-4.ensures;
+  state = state_new _ c.blank_row.result c.empty.result refl c.blank_row.ensures refl c.empty.ensures refl c.new.ensures c.new-2.ensures c.new-3.ensures c.new-4.ensures;
   requirements = requirements_new _ c.new-5.ensures;
-  sound = sound_new _ c.blank-row.result c.empty.result refl c.blank-row.ensures refl c.empty.ensures refl c.new.ensures c.new-2.ensures c.new-3.ensures c.new-4.ensures;
+  sound = sound_new _ c.blank_row.result c.empty.result refl c.blank_row.ensures refl c.empty.ensures refl c.new.ensures c.new-2.ensures c.new-3.ensures c.new-4.ensures;
 }

@@ -1,4 +1,3 @@
-use Rattle.std.proofs.Common.{arith, rules}
 use Rattle.trees.proofs.Steps.{add_fits, add_full}
 use Rattle.trees.proofs.nodes.Nodes.push.Goals as goal
 

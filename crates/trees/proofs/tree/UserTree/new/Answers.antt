@@ -38,8 +38,8 @@ good c =
     let n = c.args.nodes in
     c.loop-i.invariant.2 ∙ end_balanced n.at n.len c.loop-i.i c.loop-i.height (room n) c.loop-i-test.false ∙ ap (λ h. eqb h 1) c.if-height-eq1.true
 
-pub invariant-of-result : goal.invariant-of-result
-invariant-of-result c = (good c, tt)
+pub invariant_of-result : goal.invariant_of-result
+invariant_of-result c = record { whole = good c }
 
 pub returns-then-height-eq1 : goal.returns-then-height-eq1
 returns-then-height-eq1 c = record { made = (refl, balanced_whole _ (good (goal.at.returns-then-height-eq1 c).Then-height-eq1)); inverse = inverse }
