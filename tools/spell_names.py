@@ -17,31 +17,32 @@ MARKS = r"(?:(?:unfoldable|abbrev|pub|pattern|data|record) )*"
 SIGNATURE = re.compile(rf"(?m)^( *)({MARKS})({LETTER}+)((?: \{{[^{{}}\n]*\}}| \([^()\n]*(?:\([^()\n]*\)[^()\n]*)*\))*) : (.*)$")
 WORDS = {"use", "mod", "module", "unfolding", "let", "in", "elim", "λ"}
 TURNED = (".antt", ".rt", ".edit", ".md")
-# Names that would fall together with another one: a lemma with its function, a word with a function of src/, two words.
+# Names that the rule would leave as they are, since the new spelling stands already: as a method's that the word mirrors, or as another word's.
 CHOSEN = {
     "Round-trip": "RoundTrip",
-    "addsTo": "place_adds",
+    "addsTo": "adds_to",
     "allStill": "all_still",
     "blankBook": "empty_book",
     "mayAdd": "may_add",
     "mayRemove": "may_remove",
-    "no-row": "no_row_lem",
+    "no-row": "no_row",
+    "none-trusted": "nobody_trusted",
     "with-edge": "with_edges",
     "withEdge": "with_edge",
-    "allRoles": "only_roles",
+    "allRoles": "all_roles",
     "bit-and": "bit-bit_and",
     "bit-or": "bit-bit_or",
-    "fixedSide": "side_fixed",
+    "fixedSide": "fixed_side",
     "in-range": "in_range_lem",
     "in-set": "in_set",
-    "isRoleNode": "names_role",
+    "isRoleNode": "is_role_node",
     "isUsed": "is_used",
     "nothing-lost": "nothing_lost_lem",
     "semi-static": "is_semi_static",
     "semiStatic": "semi_static",
 }
 # A lemma that would have its function's name.
-LEMMAS = ["acts-by", "all-still", "as-condition", "has-given", "in-test", "member-test", "no-role", "no-rule", "none-trusted", "role-of", "state-at", "user-step", "whole-needs"]
+LEMMAS = ["acts-by", "all-still", "as-condition", "has-given", "in-test", "member-test", "no-role", "no-rule", "role-of", "state-at", "user-step", "whole-needs"]
 CHOSEN |= {name: name.replace("-", "_") + "_lem" for name in LEMMAS}
 
 

@@ -110,12 +110,12 @@ aar_kept t us none a b c here is_us is_none da db dc = subst⁻¹ (λ (g : Regim
       let (an, hb) = and_parts (none && a) b abn in
       let (hn, ha) = and_parts none a an in
       record {
-        none_trusted_lem = λ u. subst⁻¹ (λ (l : List User). T (not (names l u))) (sym is_us ∙ nil_from_length us (eqb-true (length us) 0 (sym is_none ∙ hn))) tt;
+        nobody_trusted = λ u. subst⁻¹ (λ (l : List User). T (not (names l u))) (sym is_us ∙ nil_from_length us (eqb-true (length us) 0 (sym is_none ∙ hn))) tt;
         no_targets = da.0 ha;
         assigned = db.0 hb;
         revocable = dc.0 hc;
       }),
   λ k. and_from ((none && a) && b) c (and_from (none && a) b (and_from none a
-      (is_none ∙ eq-eqb (length us) 0 (nobody_named us (λ u. subst⁻¹ (λ (l : List User). T (not (names l u))) is_us (k.none_trusted_lem u))))
+      (is_none ∙ eq-eqb (length us) 0 (nobody_named us (λ u. subst⁻¹ (λ (l : List User). T (not (names l u))) is_us (k.nobody_trusted u))))
       (da.1 k.no_targets)) (db.1 k.assigned)) (dc.1 k.revocable),
 )

@@ -20,7 +20,7 @@ use Rattle.tables.specs.declared.entries.Needs.TheVariants.{Everybody, Roles}
 use Rattle.tables.specs.declared.tables.Tables.{Tables}
 use Rattle.tables.specs.View.{assigned, state_of, policy_of}
 use Rattle.tables.specs.Valid.{row_at, no_row, Whole, Sound}
-use Rattle.tables.specs.Checks.{only_roles}
+use Rattle.tables.specs.Checks.{all_roles}
 use Rattle.tables.proofs.Listing.{any, any_gives, any_at}
 use Rattle.tables.proofs.Placing.{assigned_gives, assigned_at}
 use Rattle.tables.proofs.Regular.{asked}
@@ -42,12 +42,12 @@ sure_whole : (n : Needs) → Sure (Whole n) → Whole n
 sure_whole Everybody s = tt
 sure_whole (Roles n) s = found (decode (listed n)) refl
   where
-    tested : (t : UserSet) → listed n ≡ postfix t → (b : Bool) → only_roles (listed n) ≡ b → Whole (Roles n)
-    tested t is true e = (t, is, sym (alone_is t) ∙ ap only_roles (sym is) ∙ e)
-    tested t is false e = absurd (s (λ (x, same, alone). both_ways (only_roles (listed n)) e (ap only_roles same ∙ alone_is x ∙ alone)))
+    tested : (t : UserSet) → listed n ≡ postfix t → (b : Bool) → all_roles (listed n) ≡ b → Whole (Roles n)
+    tested t is true e = (t, is, sym (alone_is t) ∙ ap all_roles (sym is) ∙ e)
+    tested t is false e = absurd (s (λ (x, same, alone). both_ways (all_roles (listed n)) e (ap all_roles same ∙ alone_is x ∙ alone)))
 
     found : (o : Option UserSet) → decode (listed n) ≡ o → Whole (Roles n)
-    found (Some t) e = tested t (inverse.back (listed n) t e) (only_roles (listed n)) refl
+    found (Some t) e = tested t (inverse.back (listed n) t e) (all_roles (listed n)) refl
     found None e = absurd (s (λ (x, same, _). let h : None ≡ Some x = sym e ∙ ap decode same ∙ inverse.there x in let z : ◌≡◌ {A = ℕ} 0 1 = cc in omega arith))
 
 -- a role that is assigned is found in some row
@@ -91,7 +91,7 @@ sure_revocable p r s = revocable_gives p.revokes r (sure_test (revocable p.revok
 sure_regular : (t : Tables) (g : RegimeMeant) → Sure (asked g (policy_of t) (state_of t)) → asked g (policy_of t) (state_of t)
 sure_regular t aatu s = sure_empty (policy_of t).revokes s
 sure_regular t aar s = record {
-  none_trusted_lem = λ u. sure_test (not ((policy_of t).trusted u)) (λ no. s (λ k. no (k.none_trusted_lem u)));
+  nobody_trusted = λ u. sure_test (not ((policy_of t).trusted u)) (λ no. s (λ k. no (k.nobody_trusted u)));
   no_targets = λ r a b. s (λ k. k.no_targets r a b);
   assigned = λ r a. sure_somebody t r (λ no. s (λ k. no (k.assigned r a)));
   revocable = λ r a. sure_revocable (policy_of t) r (λ no. s (λ k. no (k.revocable r a)));

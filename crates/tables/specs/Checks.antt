@@ -11,15 +11,15 @@ pub record Blank (words : List ℕ) : Type 0 where
   pub clear : (u : ℕ) → bits words u ≡ false
 
 -- a role in range, or an operator
-abbrev pub names_role : Node → Bool
-names_role (Role n) = nat_lt n roles
-names_role (Permission n) = false
-names_role (User n) = false
-names_role Nobody = false
-names_role Or = true
-names_role And = true
+abbrev pub is_role_node : Node → Bool
+is_role_node (Role n) = nat_lt n roles
+is_role_node (Permission n) = false
+is_role_node (User n) = false
+is_role_node Nobody = false
+is_role_node Or = true
+is_role_node And = true
 
 -- the nodes of a set in which nothing but roles stands
-unfoldable pub only_roles : List Node → Bool
-only_roles [] = true
-only_roles (n ∷ ns) = names_role n && only_roles ns
+unfoldable pub all_roles : List Node → Bool
+all_roles [] = true
+all_roles (n ∷ ns) = is_role_node n && all_roles ns

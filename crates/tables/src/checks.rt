@@ -7,7 +7,7 @@ ghost use Rattle.tables.specs.declared.entries.AssignEntry.{AssignEntry as Entry
 ghost use Rattle.tables.specs.Entries.{entries};
 ghost use Rattle.tables.specs.Rows.{Apart};
 ghost use Rattle.tables.specs.Valid.{Clash, Whole, Sound};
-ghost use Rattle.tables.specs.Checks.{Blank, names_role, only_roles};
+ghost use Rattle.tables.specs.Checks.{Blank, is_role_node, all_roles};
 
 use crate::entries::{AssignEntry, Needs, Row};
 use crate::tables::Tables;
@@ -35,7 +35,7 @@ fn apart_in(rows: &[Row], seen: &mut [u64]) -> bool
 }
 
 fn is_role_node(node: Node) -> bool
-    ensures { result ≡ names_role node }
+    ensures { result ≡ is_role_node node }
 {
     match node {
         Node::Role(role) => (role as usize) < ROLES,
@@ -48,7 +48,7 @@ fn is_role_node(node: Node) -> bool
 }
 
 fn all_roles(nodes: &Nodes) -> bool
-    ensures { result ≡ only_roles (listed nodes.now) }
+    ensures { result ≡ all_roles (listed nodes.now) }
 {
     for i in 0..nodes.len {
         if !is_role_node(nodes.at[i]) {

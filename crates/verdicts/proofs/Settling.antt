@@ -38,8 +38,8 @@ use Rattle.deciding.specs.Delegates.{user_at}
 use Rattle.planning.specs.Seats.{seated}
 use Rattle.verdicts.specs.Looking.{Says, Sought, change_of, changes}
 use Rattle.verdicts.specs.Ready.{Ready}
-use Rattle.verdicts.specs.Candidates.{place_adds, Candidate}
-use Rattle.verdicts.specs.Verdict.{still, all_still, side_fixed, sought_by}
+use Rattle.verdicts.specs.Candidates.{adds_to, Candidate}
+use Rattle.verdicts.specs.Verdict.{still, all_still, fixed_side, sought_by}
 use Rattle.verdicts.proofs.Tracked.{seated_looked}
 use Rattle.verdicts.proofs.Stripping.{holder_seated}
 
@@ -93,7 +93,7 @@ static_still nobody h = refl
 static_still (union x y) h = two_parts x y Or refl ∙ ap₂ ◌&&◌ (static_still x h.0) (static_still y h.1)
 static_still (intersection x y) h = two_parts x y And refl ∙ ap₂ ◌&&◌ (static_still x h.0) (static_still y h.1)
 
-pub static_fixed : (a b : Nodes) → balanced 0 (nodes_of a) ≡ true → SemiStatic (question_of a b) → Static (side (side_fixed (all_still (nodes_of a))) (question_of a b))
+pub static_fixed : (a b : Nodes) → balanced 0 (nodes_of a) ≡ true → SemiStatic (question_of a b) → Static (side (fixed_side (all_still (nodes_of a))) (question_of a b))
 static_fixed a b w semi = go (all_still (nodes_of a)) refl semi
   where
     x : UserSet
@@ -105,7 +105,7 @@ static_fixed a b w semi = go (all_still (nodes_of a)) refl semi
     set_is : set_of a ≡ x
     set_is = ap or_nobody (ap decode is ∙ inverse.there x)
 
-    go : (t : Bool) → all_still (nodes_of a) ≡ t → SemiStatic (question_of a b) → Static (side (side_fixed t) (question_of a b))
+    go : (t : Bool) → all_still (nodes_of a) ≡ t → SemiStatic (question_of a b) → Static (side (fixed_side t) (question_of a b))
     go true e semi = subst⁻¹ Static set_is (still_static x (ap all_still (sym is) ∙ e))
     go false e (inl h) = absurd (both_ways (all_still (nodes_of a)) e (ap all_still is ∙ static_still x (subst Static set_is h)))
     go false e (inr h) = h
@@ -147,7 +147,7 @@ changes_few up (suc m) (x ∷ xs) = let e = changes_few up m xs in omega arith
 
 module _ (p : Policy) (s : State) (q : Question) (plan : Plan) (z : Ready p s q plan) (place : Place) (n : ℕ) (run : List RunStep) (c : Candidate p s q plan place n run) where
   abbrev up : Bool
-  up = place_adds place
+  up = adds_to place
 
   who : (u : User) → T (seated plan.users plan.len u) → Holder s u ⊎ (T (listed (names q) u) ⊎ (u ≡ user_at plan.users z.planned.before))
   who u h = elim (seated_looked p s q plan.users plan.roles plan.acts plan.len plan.few plan.seats z.planned u h) [

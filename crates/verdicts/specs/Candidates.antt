@@ -18,14 +18,14 @@ use Rattle.planning.specs.Seats.{seated}
 use Rattle.verdicts.specs.Looking.{changes}
 
 -- to the greatest state by adding, to the least by removing
-abbrev pub place_adds : Place → Bool
-place_adds Floor = false
-place_adds Top = true
+abbrev pub adds_to : Place → Bool
+adds_to Floor = false
+adds_to Top = true
 
 -- the first n places are such a run to this place, by and to users who have slots
 pub record Candidate (p : Policy) (s : State) (q : Question) (plan : Plan) (place : Place) (n : ℕ) (list : List RunStep) : Type 0 where
   pub few : n ≤ list_places
-  pub lawful : Run (moves p) s (changes (place_adds place) (take n list))
-  pub one_way : OnlyAdds (changes (place_adds place) (take n list)) ⊎ OnlyRemoves (changes (place_adds place) (take n list))
-  pub names : Each (λ u. T (seated plan.users plan.len u)) (changes (place_adds place) (take n list))
-  pub decided : (kind : Kind) (fixed : Side) → VerdictExact kind fixed place → Static (side fixed q) → Asked kind p s q ↔ Holds p (end s (changes (place_adds place) (take n list))) q
+  pub lawful : Run (moves p) s (changes (adds_to place) (take n list))
+  pub one_way : OnlyAdds (changes (adds_to place) (take n list)) ⊎ OnlyRemoves (changes (adds_to place) (take n list))
+  pub names : Each (λ u. T (seated plan.users plan.len u)) (changes (adds_to place) (take n list))
+  pub decided : (kind : Kind) (fixed : Side) → VerdictExact kind fixed place → Static (side fixed q) → Asked kind p s q ↔ Holds p (end s (changes (adds_to place) (take n list))) q

@@ -34,9 +34,9 @@ all_still [] = true
 all_still (n ∷ ns) = still n && all_still ns
 
 -- the larger side where it is static, else the smaller
-abbrev pub side_fixed : Bool → Side
-side_fixed true = Larger
-side_fixed false = Smaller
+abbrev pub fixed_side : Bool → Side
+fixed_side true = Larger
+fixed_side false = Smaller
 
 -- a run shows that a question can become true, or that it need not be
 abbrev pub sought_by : Kind → Bool

@@ -6,8 +6,8 @@ ghost use Rattle.policy.specs.Verdicts.{Askable};
 ghost use Rattle.tables.specs.View.{policy_of, state_of, question_of, set_of};
 ghost use Rattle.tables.specs.Valid.{Sound};
 ghost use Rattle.trees.specs.Reading.{listed};
-ghost use Rattle.verdicts.specs.Candidates.{place_adds};
-ghost use Rattle.verdicts.specs.Verdict.{still, all_still, side_fixed, sought_by, Decided, Settled};
+ghost use Rattle.verdicts.specs.Candidates.{adds_to};
+ghost use Rattle.verdicts.specs.Verdict.{still, all_still, fixed_side, sought_by, Decided, Settled};
 
 use crate::replay::first_shown;
 use crate::runners::{fill, run_to};
@@ -58,7 +58,7 @@ fn sought(kind: Kind) -> bool
 
 // A side that holds no role and no permission, where one does not.
 fn fixed_side(larger: &UserTree) -> Side
-    ensures { result ≡ side_fixed (all_still (listed larger.now.nodes)) }
+    ensures { result ≡ fixed_side (all_still (listed larger.now.nodes)) }
 {
     if is_static(larger) {
         return Side::Larger;
@@ -68,7 +68,7 @@ fn fixed_side(larger: &UserTree) -> Side
 
 // Whether the run to the place adds.
 fn adds_to(place: Place) -> bool
-    ensures { result ≡ place_adds place }
+    ensures { result ≡ adds_to place }
 {
     match place {
         Place::Floor => false,

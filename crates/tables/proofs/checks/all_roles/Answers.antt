@@ -1,12 +1,12 @@
 use Rattle.std.proofs.Common.{◌≡◌, ◌<◌, ◌≤◌, true, length, get_or, sym, ◌∙◌, arith, below_more}
 use Rattle.trees.specs.declared.nodes.Node.TheVariants.{Role}
-use Rattle.tables.specs.Checks.{names_role}
+use Rattle.tables.specs.Checks.{is_role_node}
 use Rattle.tables.proofs.Wholeness.{all_pass, one_fails}
 use Rattle.tables.proofs.checks.all_roles.Goals as goal
 
 pub loop-i-preserved : goal.loop-i-preserved
 loop-i-preserved c =
-    below_more (λ k. names_role (get_or c.args.nodes.now.at k (Role 0)) ≡ true) c.loop-i.i c.loop-i.invariant (sym c.is_role_node.ensures ∙ c.if-not-is_role_node.false)
+    below_more (λ k. is_role_node (get_or c.args.nodes.now.at k (Role 0)) ≡ true) c.loop-i.i c.loop-i.invariant (sym c.is_role_node.ensures ∙ c.if-not-is_role_node.false)
 
 pub returns-then-not-is_role_node : goal.returns-then-not-is_role_node
 returns-then-not-is_role_node c =

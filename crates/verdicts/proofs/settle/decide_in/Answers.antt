@@ -4,7 +4,7 @@ use Rattle.policy.specs.Sets.{Static}
 use Rattle.policy.specs.Terms.{side}
 use Rattle.tables.specs.View.{policy_of, state_of, question_of}
 use Rattle.verdicts.specs.Ready.{Ready}
-use Rattle.verdicts.specs.Candidates.{place_adds}
+use Rattle.verdicts.specs.Candidates.{adds_to}
 use Rattle.verdicts.proofs.Candidates.{each_sits}
 use Rattle.verdicts.proofs.Settling.{whole_needs_lem, says_start, static_fixed}
 use Rattle.verdicts.proofs.Concluding.{found, not_found}
@@ -36,7 +36,7 @@ first_shown-requires c =
     record {
       room = omega (arith, c.fill-2.ensures.room, c.run_to-n.ensures.room, c.fill.ensures.room, c.requires.room);
       steps = omega (arith, c.run_to-n.ensures.run.few);
-      sitting = each_sits x.users x.len (place_adds c.decided_at-place.result) (take c.run_to-n.result c.run_to-n.new.list) c.run_to-n.ensures.run.names;
+      sitting = each_sits x.users x.len (adds_to c.decided_at-place.result) (take c.run_to-n.result c.run_to-n.new.list) c.run_to-n.ensures.run.names;
       ready = ready;
       start = says_start (policy_of t) (state_of t) q x ready c.fill-2.new.work c.fill-2.ensures.words;
     }
