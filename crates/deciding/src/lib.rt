@@ -13,4 +13,4 @@ pub use delegation::Delegation;
 pub use masks::Masks;
 pub use plan::Plan;
 pub use runs::RunStep;
-pub use sets::{condition, in_set, member};
+pub use sets::in_set;

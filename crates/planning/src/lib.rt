@@ -6,4 +6,3 @@ mod ranks;
 mod seats;
 
 pub use plans::plan_of;
-pub use ranks::masks_of;

@@ -1,0 +1,6 @@
+// What a board says, in the words of the meaning: its book, the one table of refusals, and what each call makes of it.
+#![tactic(auto)]
+
+mod refusal;
+
+pub use refusal::{Cause, Refusal};

@@ -1,0 +1,7 @@
+// Questions about worked boards, each with its verdict.
+#![tactic(auto)]
+
+#[cfg(test)]
+mod boards;
+#[cfg(test)]
+mod tests;
