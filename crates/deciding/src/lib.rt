@@ -13,4 +13,4 @@ pub use delegation::Delegation;
 pub use masks::Masks;
 pub use plan::Plan;
 pub use runs::RunStep;
-pub use sets::in_set;
+pub use sets::{condition, in_set, member};

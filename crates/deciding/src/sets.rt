@@ -24,7 +24,7 @@ fn set_at(sets: &[RoleSet], place: usize) -> RoleSet
 }
 
 // Whether one of these roles is in the set at the place.
-pub(crate) fn member(roles: RoleSet, sets: &[RoleSet], place: usize) -> bool
+pub fn member(roles: RoleSet, sets: &[RoleSet], place: usize) -> bool
     ensures { result ≡ member_test (down_of sets.now) (roles_of roles) place }
 {
     roles.meets(set_at(sets, place))
@@ -76,7 +76,7 @@ pub fn in_set(set: &UserTree, masks: &Masks, user: User, roles: RoleSet) -> bool
 }
 
 // Whether a user with these roles meets the condition.
-pub(crate) fn condition(needs: &Needs, masks: &Masks, roles: RoleSet) -> bool
+pub fn condition(needs: &Needs, masks: &Masks, roles: RoleSet) -> bool
     requires { whole_needs needs.now ≡ true }
     ensures { result ≡ meets_test (down_of masks.now.seniors) (roles_of roles) (condition_of needs.now) }
 {

@@ -6,3 +6,4 @@ mod ranks;
 mod seats;
 
 pub use plans::plan_of;
+pub use ranks::masks_of;

@@ -92,8 +92,7 @@ fn givers(gives: &[RoleSet], seniors: &[RoleSet]) -> [RoleSet; PERMISSIONS]
     masks
 }
 
-// Worked out once for each question.
-pub(crate) fn masks_of(tables: &Tables) -> Masks
+pub fn masks_of(tables: &Tables) -> Masks
     ensures { Ranked (policy_of tables.now) result.seniors result.givers }
 {
     let below = juniors(&tables.hierarchy);

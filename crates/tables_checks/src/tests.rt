@@ -2,12 +2,8 @@
 use hierarchy::Edge;
 use policy::Regime;
 use rbac::{Permission, Role, RoleSet, User};
-use soundness::{
-    Valid, admins_are_assigned, admins_are_no_targets, assignable_is_revocable, conditions_whole,
-    held, is_sound, regime_kept, revocable, rows_apart,
-};
 use std::test::Fail;
-use tables::{AssignEntry, Bounded, Needs, RevokeEntry, Row, Tables};
+use tables::{AssignEntry, Bounded, Needs, RevokeEntry, Row, Tables, Valid};
 use trees::{Node, Nodes};
 
 #[test]
@@ -15,9 +11,9 @@ fn a_new_board_is_sound_and_empty(rt: HostRuntime) -> Result<(), Fail> {
     let tables = Tables::new();
     let user = User::new(0).ok_or(1)?;
     let role = Role::new(0).ok_or(1)?;
-    assert!(rt; is_sound(&tables));
+    assert!(rt; tables.is_sound());
     assert!(rt; !tables.is_member(user, role));
-    assert!(rt; held(&tables).is_empty());
+    assert!(rt; tables.held().is_empty());
     assert!(rt; Valid::new(tables).is_some());
     Ok(())
 }
@@ -37,7 +33,7 @@ fn the_hundred_and_first_user_has_no_row(rt: HostRuntime) -> Result<(), Fail> {
     assert!(rt; !tables.is_member(late, role));
     assert!(rt; tables.assign(early, more));
     assert_eq!(rt; tables.assigned(early).word(), 0x60);
-    assert!(rt; is_sound(&tables));
+    assert!(rt; tables.is_sound());
     Ok(())
 }
 
@@ -72,12 +68,12 @@ fn two_rows_of_one_user_are_no_board(rt: HostRuntime) -> Result<(), Fail> {
         user,
         roles: RoleSet::one(role),
     };
-    assert!(rt; is_sound(&tables));
+    assert!(rt; tables.is_sound());
     tables.rows[99] = tables.rows[3];
-    assert!(rt; !rows_apart(&tables));
+    assert!(rt; !tables.rows_apart());
     assert!(rt; Valid::new(tables).is_none());
     tables.rows[99].roles = RoleSet::empty();
-    assert!(rt; rows_apart(&tables));
+    assert!(rt; tables.rows_apart());
     Ok(())
 }
 
@@ -136,11 +132,11 @@ fn revocable_board() -> Option<Tables> {
 fn an_administering_role_is_no_target(rt: HostRuntime) -> Result<(), Fail> {
     let mut tables = revocable_board().ok_or(1)?;
     let admin = Role::new(1).ok_or(1)?;
-    assert!(rt; regime_kept(&tables));
+    assert!(rt; tables.regime_kept());
     tables.revokes.places[0].targets = tables.revokes.places[0].targets.insert(admin);
-    assert!(rt; !admins_are_no_targets(&tables));
-    assert!(rt; admins_are_assigned(&tables) & assignable_is_revocable(&tables));
-    assert!(rt; !regime_kept(&tables));
+    assert!(rt; !tables.admins_are_no_targets());
+    assert!(rt; tables.admins_are_assigned() & tables.assignable_is_revocable());
+    assert!(rt; !tables.regime_kept());
     Ok(())
 }
 
@@ -150,9 +146,9 @@ fn an_administering_role_is_assigned(rt: HostRuntime) -> Result<(), Fail> {
     let user = User::new(1).ok_or(1)?;
     let admin = Role::new(1).ok_or(1)?;
     tables.unassign(user, admin);
-    assert!(rt; !admins_are_assigned(&tables));
-    assert!(rt; admins_are_no_targets(&tables) & assignable_is_revocable(&tables));
-    assert!(rt; !is_sound(&tables));
+    assert!(rt; !tables.admins_are_assigned());
+    assert!(rt; tables.admins_are_no_targets() & tables.assignable_is_revocable());
+    assert!(rt; !tables.is_sound());
     Ok(())
 }
 
@@ -160,11 +156,11 @@ fn an_administering_role_is_assigned(rt: HostRuntime) -> Result<(), Fail> {
 fn what_is_assigned_can_be_revoked(rt: HostRuntime) -> Result<(), Fail> {
     let mut tables = revocable_board().ok_or(1)?;
     assert!(rt; tables.revokes.remove(0));
-    assert!(rt; !assignable_is_revocable(&tables));
-    assert!(rt; admins_are_no_targets(&tables) & admins_are_assigned(&tables));
-    assert!(rt; !regime_kept(&tables));
+    assert!(rt; !tables.assignable_is_revocable());
+    assert!(rt; tables.admins_are_no_targets() & tables.admins_are_assigned());
+    assert!(rt; !tables.regime_kept());
     tables.regime = Regime::Aatu;
-    assert!(rt; regime_kept(&tables));
+    assert!(rt; tables.regime_kept());
     Ok(())
 }
 
@@ -173,11 +169,11 @@ fn each_regime_excludes_what_it_does_not_know(rt: HostRuntime) -> Result<(), Fai
     let user = User::new(1).ok_or(1)?;
     let mut tables = revocable_board().ok_or(1)?;
     assert!(rt; tables.trusted.push(user));
-    assert!(rt; !regime_kept(&tables));
+    assert!(rt; !tables.regime_kept());
     tables.regime = Regime::Aatu;
-    assert!(rt; !regime_kept(&tables));
+    assert!(rt; !tables.regime_kept());
     assert!(rt; tables.revokes.remove(0));
-    assert!(rt; regime_kept(&tables));
+    assert!(rt; tables.regime_kept());
     Ok(())
 }
 
@@ -190,15 +186,15 @@ fn a_condition_is_a_set_of_roles(rt: HostRuntime) -> Result<(), Fail> {
     at[2] = Node::And;
     at[3] = Node::User(1);
     tables.assigns.places[0].needs = Needs::Roles(Nodes { at, len: 3 });
-    assert!(rt; conditions_whole(&tables));
+    assert!(rt; tables.conditions_whole());
     tables.assigns.places[0].needs = Needs::Roles(Nodes { at, len: 2 });
-    assert!(rt; !conditions_whole(&tables));
+    assert!(rt; !tables.conditions_whole());
     at[1] = Node::Role(64);
     tables.assigns.places[0].needs = Needs::Roles(Nodes { at, len: 3 });
-    assert!(rt; !conditions_whole(&tables));
+    assert!(rt; !tables.conditions_whole());
     at[1] = Node::Permission(1);
     tables.assigns.places[0].needs = Needs::Roles(Nodes { at, len: 3 });
-    assert!(rt; !is_sound(&tables));
+    assert!(rt; !tables.is_sound());
     Ok(())
 }
 

@@ -13,4 +13,3 @@ mod work;
 
 pub use settle::decide;
 pub use verdict::Verdict;
-pub use work::Work;

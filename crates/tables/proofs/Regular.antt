@@ -1,0 +1,121 @@
+-- The regime's properties, from the sets of roles that they speak of.
+use Rattle.std.proofs.Common.{◌≡◌, ℕ, ◌<◌, Bool, true, false, not, ◌&&◌, ◌||◌, T, eqb, ltb, List, [], ◌∷◌, map, length, Decides, sym, refl, ap, ◌∙◌, subst, inl, inr, ⊎_elim, lt→ltb}
+use mathlib.Core.Path.{subst⁻¹}
+use lib.Dec.{eqb_refl}
+use lib.ListN.{length-map}
+use Rattle.std.proofs.lemmas.List.{nil_from_length}
+use Rattle.std.proofs.lemmas.Bool.{both_ways, eq-eqb, eqb-true, and_parts, and_from}
+use Rattle.policy.specs.Membership.{State}
+use Rattle.policy.specs.Rules.{Policy, aatu, aar}
+use Rattle.policy.specs.Rules.{Regime as RegimeMeant}
+use Rattle.policy.specs.declared.terms.Regime.TheVariants.{Aatu as aatu_here, Aar as aar_here}
+use Rattle.policy.specs.Regimes.{Administers, Assignable, Revocable, AdminsAreNoTargets, AdminsAreAssigned, AssignableIsRevocable, Aatu, Aar, Regular}
+use Rattle.policy.proofs.Tests.{either, or_left, or_right, clash, second, both, as_true, as_test}
+use Rattle.rbac.specs.declared.sets.RoleSet.{RoleSet}
+use Rattle.rbac.specs.declared.users.User.{User}
+use Rattle.rbac.specs.Roles.{roles_of, of_either}
+use Rattle.tables.specs.declared.entries.AssignEntry.{AssignEntry}
+use Rattle.tables.specs.declared.entries.RevokeEntry.{RevokeEntry}
+use Rattle.tables.specs.declared.regime.Named.{Named}
+use Rattle.tables.specs.declared.tables.Tables.{Tables}
+use Rattle.tables.specs.Entries.{entries}
+use Rattle.tables.specs.Named.{OfAssigns, OfRevokes}
+use Rattle.tables.specs.View.{assigned, state_of, policy_of, assign_of, revoke_of, names, meant}
+use Rattle.tables.proofs.Viewing.{regime_is}
+
+pub assignable_told : (t : Tables) (es : List AssignEntry) → es ≡ entries t.assigns → (x : Named) → OfAssigns (map assign_of es) x → (r : ℕ) → Decides (roles_of x.targets r) (Assignable (policy_of t) r)
+unfolding policy_of
+assignable_told t es is x told r = (subst (λ (l : List AssignEntry). OfAssigns (map assign_of l) x) is told).targets r
+
+pub revocable_told : (t : Tables) (es : List RevokeEntry) → es ≡ entries t.revokes → (x : Named) → OfRevokes (map revoke_of es) x → (r : ℕ) → Decides (roles_of x.targets r) (Revocable (policy_of t) r)
+unfolding policy_of
+revocable_told t es is x told r = (subst (λ (l : List RevokeEntry). OfRevokes (map revoke_of l) x) is told).targets r
+
+pub admins_told : (t : Tables) (es : List AssignEntry) (rs : List RevokeEntry) → es ≡ entries t.assigns → rs ≡ entries t.revokes → (x y : Named) → OfAssigns (map assign_of es) x → OfRevokes (map revoke_of rs) y
+    → (s : RoleSet) → roles_of s ≡ of_either (roles_of x.admins) (roles_of y.admins) → (r : ℕ) → Decides (roles_of s r) (Administers (policy_of t) r)
+unfolding policy_of
+admins_told t es rs es-is rs-is x y told-x told-y s is r =
+    let a = (subst (λ (l : List AssignEntry). OfAssigns (map assign_of l) x) es-is told-x).admins r in
+    let b = (subst (λ (l : List RevokeEntry). OfRevokes (map revoke_of l) y) rs-is told-y).admins r in
+    let here : roles_of s r ≡ (roles_of x.admins r || roles_of y.admins r) = ap (λ f. f r) is in (
+      (λ e. ⊎_elim (λ (h : T (roles_of x.admins r)). inl (a.0 (as_true _ h))) (λ (h : T (roles_of y.admins r)). inr (b.0 (as_true _ h))) (either (roles_of x.admins r) (roles_of y.admins r) (as_test _ (sym here ∙ e)))),
+      λ p. here ∙ as_true _ (elim p [
+        | inl q ↦ or_left (roles_of x.admins r) (roles_of y.admins r) (as_test _ (a.1 q))
+        | inr q ↦ or_right (roles_of x.admins r) (roles_of y.admins r) (as_test _ (b.1 q))
+      ]),
+    )
+
+pub state_held : (t : Tables) (s : RoleSet) → ((r : ℕ) → Decides (roles_of s r) ((u : ℕ) × (u < 65536) × T (assigned t.rows u r))) → (r : ℕ) → Decides (roles_of s r) ((u : ℕ) × (u < 65536) × T (state_of t u r))
+unfolding state_of
+state_held t s told r = (
+  (λ e. let (u, l, h) = (told r).0 e in (u, l, both (ltb u 65536) (assigned t.rows u r) (lt→ltb u 65536 l) h)),
+  λ (u, l, h). (told r).1 (u, l, second (ltb u 65536) (assigned t.rows u r) h),
+)
+
+denied : (b : Bool) → (b ≡ true → ⊥) → not b ≡ true
+denied true f = absurd (f refl)
+denied false f = refl
+
+undenied : (b : Bool) → not b ≡ true → b ≡ true → ⊥
+undenied true e f = both_ways false refl e
+undenied false e f = both_ways false refl f
+
+pub no_targets_told : (p : Policy) (a s v u : RoleSet) (met : Bool) → ((r : ℕ) → Decides (roles_of a r) (Administers p r)) → ((r : ℕ) → Decides (roles_of s r) (Assignable p r)) → ((r : ℕ) → Decides (roles_of v r) (Revocable p r))
+    → roles_of u ≡ of_either (roles_of s) (roles_of v) → Decides met ((k : ℕ) × T (roles_of a k) × T (roles_of u k)) → Decides (not met) (AdminsAreNoTargets p)
+no_targets_told p a s v u met admin sets takes is meets = (
+  (λ e r h target. undenied met e (meets.1 (
+    r,
+    as_test _ ((admin r).1 h),
+    as_test _ (here r ∙ as_true _ (elim target [
+      | inl q ↦ or_left (roles_of s r) (roles_of v r) (as_test _ ((sets r).1 q))
+      | inr q ↦ or_right (roles_of s r) (roles_of v r) (as_test _ ((takes r).1 q))
+    ])),
+  ))),
+  λ none. denied met (λ e. let (k, x, y) = meets.0 e in none k ((admin k).0 (as_true _ x))
+      (⊎_elim (λ (h : T (roles_of s k)). inl ((sets k).0 (as_true _ h))) (λ (h : T (roles_of v k)). inr ((takes k).0 (as_true _ h))) (either (roles_of s k) (roles_of v k) (subst T (here k) y)))),
+)
+  where
+    here : (r : ℕ) → roles_of u r ≡ (roles_of s r || roles_of v r)
+    here r = ap (λ f. f r) is
+
+pub within_told : (P Q : ℕ → Type 0) (a b : RoleSet) (r : Bool) → ((k : ℕ) → Decides (roles_of a k) (P k)) → ((k : ℕ) → Decides (roles_of b k) (Q k))
+    → Decides r ((k : ℕ) → T (roles_of a k) → T (roles_of b k)) → Decides r ((k : ℕ) → P k → Q k)
+within_told P Q a b r da db d = (
+  (λ e k p. (db k).0 (as_true _ (d.0 e k (as_test _ ((da k).1 p))))),
+  λ f. d.1 (λ k h. as_test _ ((db k).1 (f k ((da k).0 (as_true _ h))))),
+)
+
+-- what a regime asks
+abbrev pub asked : RegimeMeant → Policy → State → Type 0
+asked g p s = elim g [ aatu ↦ Aatu p | aar ↦ Aar p s ]
+
+pub aatu_kept : (t : Tables) (es : List RevokeEntry) (r : Bool) → t.regime ≡ aatu_here → es ≡ entries t.revokes → r ≡ eqb (length es) 0 → Decides r (Regular (policy_of t) (state_of t))
+unfolding policy_of
+aatu_kept t es r here is-es is-r = subst⁻¹ (λ (g : RegimeMeant). Decides r (asked g (policy_of t) (state_of t))) (regime_is t ∙ ap meant here) (
+  (λ e. ap (map revoke_of) (sym is-es ∙ nil_from_length es (eqb-true (length es) 0 (sym is-r ∙ e)))),
+  λ none. is-r ∙ eq-eqb (length es) 0 (sym (length-map es revoke_of) ∙ ap (λ l. length (map revoke_of l)) is-es ∙ ap length none),
+)
+
+nobody_named : (us : List User) → ((u : ℕ) → T (not (names us u))) → length us ≡ 0
+nobody_named [] f = refl
+nobody_named (x ∷ xs) f = absurd (clash (names (x ∷ xs) x.number) (or_left (eqb x.number x.number) (names xs x.number) (eqb_refl x.number)) (f x.number))
+
+pub aar_kept : (t : Tables) (us : List User) (none a b c : Bool) → t.regime ≡ aar_here → us ≡ entries t.trusted → none ≡ eqb (length us) 0
+    → Decides a (AdminsAreNoTargets (policy_of t)) → Decides b (AdminsAreAssigned (policy_of t) (state_of t)) → Decides c (AssignableIsRevocable (policy_of t))
+    → Decides (((none && a) && b) && c) (Regular (policy_of t) (state_of t))
+unfolding policy_of
+aar_kept t us none a b c here is_us is_none da db dc = subst⁻¹ (λ (g : RegimeMeant). Decides (((none && a) && b) && c) (asked g (policy_of t) (state_of t))) (regime_is t ∙ ap meant here) (
+  (λ e.
+      let (abn, hc) = and_parts ((none && a) && b) c e in
+      let (an, hb) = and_parts (none && a) b abn in
+      let (hn, ha) = and_parts none a an in
+      record {
+        nobody_trusted = λ u. subst⁻¹ (λ (l : List User). T (not (names l u))) (sym is_us ∙ nil_from_length us (eqb-true (length us) 0 (sym is_none ∙ hn))) tt;
+        no_targets = da.0 ha;
+        assigned = db.0 hb;
+        revocable = dc.0 hc;
+      }),
+  λ k. and_from ((none && a) && b) c (and_from (none && a) b (and_from none a
+      (is_none ∙ eq-eqb (length us) 0 (nobody_named us (λ u. subst⁻¹ (λ (l : List User). T (not (names l u))) is_us (k.nobody_trusted u))))
+      (da.1 k.no_targets)) (db.1 k.assigned)) (dc.1 k.revocable),
+)

@@ -1,0 +1,10 @@
+use Rattle.std.proofs.Common.{◌≡◌, ℕ, take}
+use Rattle.rbac.specs.Roles.{roles_of}
+use Rattle.tables.proofs.Listing.{any}
+use Rattle.tables.proofs.Naming.{assign_admin, assign_target}
+use Rattle.tables.proofs.regime.of_assigns.Given as goal
+
+abbrev pub invariant-loop-rule : goal.invariant-loop-rule
+invariant-loop-rule l =
+    ((r : ℕ) → roles_of l.admins r ≡ any assign_admin (take l.rule-index l.rules) r)
+    × ((r : ℕ) → roles_of l.targets r ≡ any assign_target (take l.rule-index l.rules) r)

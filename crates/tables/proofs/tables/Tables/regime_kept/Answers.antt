@@ -1,0 +1,10 @@
+use Rattle.tables.proofs.Regular.{aatu_kept, aar_kept}
+use Rattle.tables.proofs.tables.Tables.regime_kept.Goals as goal
+
+pub returns-in-Aatu : goal.returns-in-Aatu
+returns-in-Aatu c = aatu_kept c.args.self.now c.entries.result.now c.is_empty.result c.in-Aatu.is c.entries.ensures c.is_empty.ensures
+
+pub returns-in-Aar : goal.returns-in-Aar
+returns-in-Aar c =
+    aar_kept c.args.self.now c.entries-in-Aar.result.now c.is_empty-in-Aar.result c.admins_are_no_targets.result c.admins_are_assigned.result c.assignable_is_revocable.result
+    c.in-Aar.is c.entries-in-Aar.ensures c.is_empty-in-Aar.ensures c.admins_are_no_targets.ensures c.admins_are_assigned.ensures c.assignable_is_revocable.ensures

@@ -1,0 +1,25 @@
+-- What the checks of plain tables speak of.
+use Rattle.std.specs.Prelude.{◌≡◌, ℕ, ◌*◌, Bool, true, false, ◌&&◌, List, [], ◌∷◌, length, nat_lt}
+use Rattle.words.specs.Words.{bits}
+use Rattle.policy.specs.Measures.{users, roles}
+use Rattle.trees.specs.declared.nodes.Node.{Node}
+use Rattle.trees.specs.declared.nodes.Node.TheVariants.{Role, Permission, User, Nobody, Or, And}
+
+-- a table with a bit for each user, none of them set
+pub record Blank (words : List ℕ) : Type 0 where
+  pub long : length words * 64 ≡ users
+  pub clear : (u : ℕ) → bits words u ≡ false
+
+-- a role in range, or an operator
+abbrev pub is_role_node : Node → Bool
+is_role_node (Role n) = nat_lt n roles
+is_role_node (Permission n) = false
+is_role_node (User n) = false
+is_role_node Nobody = false
+is_role_node Or = true
+is_role_node And = true
+
+-- the nodes of a set in which nothing but roles stands
+unfoldable pub all_roles : List Node → Bool
+all_roles [] = true
+all_roles (n ∷ ns) = is_role_node n && all_roles ns
