@@ -7,7 +7,7 @@ pub returns-then-text-gt-LONGEST : goal.returns-then-text-gt-LONGEST
 returns-then-text-gt-LONGEST c = too_long questions _ (Asks c.args.extra.now) c.if-text-gt-LONGEST.true
 
 pub returns-in-Ok : goal.returns-in-Ok
-returns-in-Ok c = let h = c.in-Ok.ensures in line_fine questions _ (Asks _) c.if-text-gt-LONGEST.false c.in-Ok.question h.0 h.1
+returns-in-Ok c = let h = c.in-Ok.ensures in line_fine questions _ (Asks _) c.if-text-gt-LONGEST.false _ h.0 h.1
 
 pub returns-in-Err : goal.returns-in-Err
 returns-in-Err c = line_fault questions _ (Asks c.args.extra.now) c.if-text-gt-LONGEST.false c.in-Err.ground c.in-Err.ensures

@@ -1,4 +1,4 @@
-use Rattle.std.proofs.Common.{false, Some, sym, refl, subst}
+use Rattle.std.proofs.Common.{false, Some, sym, refl, subst, rules}
 use borrow.Author.Tests.{clash}
 use Rattle.grammar.specs.Text.{rest}
 use Rattle.lines.specs.declared.keyword.Keyword.{Keyword}
@@ -14,7 +14,7 @@ pub returns-in-Ua : goal.returns-in-Ua
 returns-in-Ua c = line_answer _ (rest c.begins.new.r) Ua (subst (λ (k : Keyword). Starts (rest c.args.r.now) (Some k) (rest c.begins.new.r)) c.in-Ua.is c.in-Some.ensures) refl _ _ c.ua.ensures
 
 pub returns-in-Pa : goal.returns-in-Pa
-returns-in-Pa c = line_answer _ (rest c.begins.new.r) Pa (subst (λ (k : Keyword). Starts (rest c.args.r.now) (Some k) (rest c.begins.new.r)) c.in-Pa.is c.in-Some.ensures) refl _ _ c.pa.ensures
+returns-in-Pa c = line_answer _ (rest c.begins.new.r) Pa (subst (λ (k : Keyword). Starts (rest c.args.r.now) (Some k) (rest c.begins.new.r)) c.in-Pa.is c.in-Some.ensures) refl _ _ (search rules)
 
 pub returns-in-Rh : goal.returns-in-Rh
 returns-in-Rh c = line_answer _ (rest c.begins.new.r) Rh (subst (λ (k : Keyword). Starts (rest c.args.r.now) (Some k) (rest c.begins.new.r)) c.in-Rh.is c.in-Some.ensures) refl _ _ c.rh.ensures
