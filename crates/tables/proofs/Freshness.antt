@@ -20,7 +20,7 @@ use Rattle.tables.specs.View.{assigned, state_of, policy_of, requirements_of, as
 use Rattle.tables.specs.Valid.{row_at, no_row, Used, Whole, Sound}
 use Rattle.tables.specs.Fresh.{nothing_assigned, new_policy}
 use Rattle.tables.proofs.Viewing.{regime_is, revokes_are}
-use Rattle.tables.proofs.Regular.{asked}
+use Rattle.tables.proofs.Regular.{RegimeAsks}
 
 never : (b : Bool) → (b && false) ≡ false
 never true = refl
@@ -76,7 +76,7 @@ module _ (t : Tables) (x : Row) (e : RoleSet) (regime : t.regime ≡ aatu_here) 
   sound_new = record {
     apart = λ i j (ij, l, a, b, _). unused j l b;
     conditions = λ k y n. nobody k y (subst (Nth k y) assigns n);
-    regular = subst⁻¹ (λ (g : RegimeMeant). asked g (policy_of t) (state_of t)) (regime_is t ∙ ap meant regime) (revokes_are t ∙ ap (map revoke_of) revokes);
+    regular = subst⁻¹ (λ (g : RegimeMeant). RegimeAsks g (policy_of t) (state_of t)) (regime_is t ∙ ap meant regime) (revokes_are t ∙ ap (map revoke_of) revokes);
   }
     where
       nobody : (k : ℕ) (y : AssignEntry) → Nth k y [] → Whole y.needs

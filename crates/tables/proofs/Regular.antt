@@ -86,12 +86,12 @@ within_told P Q a b r da db d = (
 )
 
 -- what a regime asks
-abbrev pub asked : RegimeMeant → Policy → State → Type 0
-asked g p s = elim g [ aatu ↦ Aatu p | aar ↦ Aar p s ]
+abbrev pub RegimeAsks : RegimeMeant → Policy → State → Type 0
+RegimeAsks g p s = elim g [ aatu ↦ Aatu p | aar ↦ Aar p s ]
 
 pub aatu_kept : (t : Tables) (es : List RevokeEntry) (r : Bool) → t.regime ≡ aatu_here → es ≡ entries t.revokes → r ≡ eqb (length es) 0 → Decides r (Regular (policy_of t) (state_of t))
 unfolding policy_of
-aatu_kept t es r here is-es is-r = subst⁻¹ (λ (g : RegimeMeant). Decides r (asked g (policy_of t) (state_of t))) (regime_is t ∙ ap meant here) (
+aatu_kept t es r here is-es is-r = subst⁻¹ (λ (g : RegimeMeant). Decides r (RegimeAsks g (policy_of t) (state_of t))) (regime_is t ∙ ap meant here) (
   (λ e. ap (map revoke_of) (sym is-es ∙ nil_from_length es (eqb-true (length es) 0 (sym is-r ∙ e)))),
   λ none. is-r ∙ eq-eqb (length es) 0 (sym (length-map es revoke_of) ∙ ap (λ l. length (map revoke_of l)) is-es ∙ ap length none),
 )
@@ -104,7 +104,7 @@ pub aar_kept : (t : Tables) (us : List User) (none a b c : Bool) → t.regime �
     → Decides a (AdminsAreNoTargets (policy_of t)) → Decides b (AdminsAreAssigned (policy_of t) (state_of t)) → Decides c (AssignableIsRevocable (policy_of t))
     → Decides (((none && a) && b) && c) (Regular (policy_of t) (state_of t))
 unfolding policy_of
-aar_kept t us none a b c here is_us is_none da db dc = subst⁻¹ (λ (g : RegimeMeant). Decides (((none && a) && b) && c) (asked g (policy_of t) (state_of t))) (regime_is t ∙ ap meant here) (
+aar_kept t us none a b c here is_us is_none da db dc = subst⁻¹ (λ (g : RegimeMeant). Decides (((none && a) && b) && c) (RegimeAsks g (policy_of t) (state_of t))) (regime_is t ∙ ap meant here) (
   (λ e.
       let (abn, hc) = and_parts ((none && a) && b) c e in
       let (an, hb) = and_parts (none && a) b abn in
