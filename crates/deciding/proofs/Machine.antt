@@ -3,8 +3,8 @@ use Rattle.std.proofs.Common.{◌≡◌, ℕ, zero, suc, ◌+◌, ◌*◌, ◌/�
 use Rattle.std.proofs.lemmas.List.{drop_more, drop_all, length-take-le, get_or-take, get_or_past}
 use Rattle.std.proofs.lemmas.Bool.Decides.{nat_tests}
 use Rattle.policy.specs.Tests.{some}
-use Rattle.policy.specs.Membership.{Row}
-use Rattle.policy.specs.Sets.{UserSet, members, holders, only, nobody, union, intersection}
+use Rattle.policy.specs.Membership.{Role, Row}
+use Rattle.policy.specs.Sets.{UserSet, members, holders, only, nobody, union, intersection, as_condition}
 use Rattle.policy.specs.Delegation.{member_test, meets_test}
 use Rattle.policy.proofs.Tests.{agree, both, first, second, some_at, some_gives, as_true, as_test}
 use Rattle.rbac.specs.declared.sets.RoleSet.{RoleSet}
@@ -18,8 +18,8 @@ use Rattle.trees.specs.declared.nodes.Nodes.{Nodes}
 use Rattle.trees.specs.Reading.{listed}
 use Rattle.trees.specs.Trees.{balanced, decoded, decode}
 use Rattle.trees.proofs.Whole.{balanced_whole, inverse}
-use Rattle.tables.specs.View.{set_of, or_nobody, as_condition}
-use Rattle.deciding.specs.Masked.{down_of, leaf_says, in_test, pushed}
+use Rattle.tables.specs.View.{set_of, or_nobody}
+use Rattle.deciding.specs.Masked.{down_of, is_one, has_given, leaf_says, in_test, pushed}
 
 -- what the nodes leave on a stack of bits
 abbrev pub bits : (Node → Bool) → List Node → ℕ → ℕ

@@ -10,9 +10,10 @@ use Rattle.words.specs.Words.{bit, bits, with}
 use Rattle.words.proofs.Bits.{bit_none}
 use Rattle.rbac.specs.declared.users.User.{User}
 use Rattle.lines.specs.declared.change.Extra.{Extra}
-use Rattle.lines.specs.Entries.{all_below}
-use Rattle.lines.specs.Lists.{number_of, Seen, kept}
-use Rattle.lines.proofs.Naming.{named_more, below_more, repeats_more, no_and}
+use Rattle.lines.specs.Entries.{all_below, repeats}
+use Rattle.policy.specs.Tests.{listed as named}
+use Rattle.lines.specs.Lists.{number_of, Users, Seen, kept}
+use Rattle.lines.proofs.Naming.{named_more, below_more, repeats_more, and_none, no_and}
 
 never : (g : Bool) → (g && false) ≡ true → ⊥
 never g y = clash (sym (no_and g) ∙ y)

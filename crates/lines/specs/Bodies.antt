@@ -1,8 +1,8 @@
 -- What stands in a line behind its word, by shape.
 use Rattle.std.specs.Prelude.{◌≡◌, ℕ, ◌+◌, ◌<◌, max, Bool, true, ◌&&◌, ◌||◌, List, ◌∷◌, ◌++◌, codes, decimal, nat_le, nat_lt}
 use Rattle.policy.specs.Measures as measures
-use Rattle.policy.specs.Rules.{Condition, everybody, in_role, both, either}
-use Rattle.policy.specs.Sets.{UserSet, members, holders, only, nobody, union, intersection}
+use Rattle.policy.specs.Rules.{Condition, everybody}
+use Rattle.policy.specs.Sets.{Question, as_condition}
 use Rattle.grammar.specs.Phrase.{set, Phrase, render, meaning, levels, operands, in_range, static, roles_alone, Short}
 use Rattle.lines.specs.Entries.{entries, AllShort, all_below}
 use Rattle.lines.specs.Languages.{Language}
@@ -70,19 +70,10 @@ abbrev pub clause_small : Clause → Bool
 clause_small always_true = true
 clause_small (in_set p) = nat_le (operands (meaning p)) measures.condition_operands && nat_le (levels p) deepest
 
--- a set of roles alone, as a condition; what else stands in a set is none
-abbrev pub condition_of : UserSet → Condition
-condition_of (members r) = in_role r
-condition_of (holders n) = everybody
-condition_of (only u) = everybody
-condition_of nobody = everybody
-condition_of (union a b) = either (condition_of a) (condition_of b)
-condition_of (intersection a b) = both (condition_of a) (condition_of b)
-
 -- the condition that a clause says
 abbrev pub condition : Clause → Condition
 condition always_true = everybody
-condition (in_set p) = condition_of (meaning p)
+condition (in_set p) = as_condition (meaning p)
 
 -- an administering role, a condition, and one or more targets
 pub record Assigning : Type 0 where
@@ -103,6 +94,10 @@ assigns = record {
 pub record Sides : Type 0 where
   pub larger : Phrase set
   pub smaller : Phrase set
+
+-- the question that they ask: whether everybody in the smaller set is in the larger
+abbrev pub question_of : Sides → Question
+question_of x = record { larger = meaning x.larger; smaller = meaning x.smaller }
 
 abbrev pub sides : Language
 sides = record {

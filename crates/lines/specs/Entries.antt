@@ -1,5 +1,6 @@
 -- Lists of numbers in a line: how they are written, and what they name.
-use Rattle.std.specs.Prelude.{ℕ, ◌<◌, Bool, true, false, cond, ◌&&◌, ◌||◌, List, [], ◌∷◌, ◌++◌, decimal, ◌==◌, nat_lt}
+use Rattle.std.specs.Prelude.{◌≡◌, ℕ, ◌<◌, Bool, true, false, cond, ◌&&◌, ◌||◌, List, [], ◌∷◌, ◌++◌, decimal, ◌==◌, nat_lt}
+use Rattle.policy.specs.Tests.{listed as named}
 use Rattle.grammar.specs.Text.{Read, none, number}
 
 -- each entry is a blank, a letter and a number
@@ -16,11 +17,6 @@ AllShort (n ∷ ns) = (n < 100000) × AllShort ns
 abbrev pub all_below : ℕ → List ℕ → Bool
 all_below limit [] = true
 all_below limit (n ∷ ns) = nat_lt n limit && all_below limit ns
-
--- the list names the number
-abbrev pub named : List ℕ → ℕ → Bool
-named [] k = false
-named (n ∷ ns) k = k == n || named ns k
 
 -- the list names some number twice
 abbrev pub repeats : List ℕ → Bool

@@ -14,7 +14,8 @@ use Rattle.lines.specs.declared.change.Change.TheVariants as change
 use Rattle.lines.specs.declared.change.Extra.{Extra}
 use Rattle.lines.specs.declared.keyword.Keyword.{Keyword}
 use Rattle.lines.specs.declared.keyword.Keyword.TheVariants.{Ua, Pa, Rh, Trust, Assign, Revoke, Always, Never, Possible, Necessary}
-use Rattle.lines.specs.Entries.{named, repeats}
+use Rattle.lines.specs.Entries.{repeats}
+use Rattle.policy.specs.Tests.{listed as named}
 use Rattle.lines.specs.Languages.{Language, Least, Unrefused, Told}
 use Rattle.lines.specs.Lists.{number_of}
 use Rattle.lines.specs.Bodies.{Row, roles_in, rows, Users, users_in, trusts, Clause, always_true, in_set, Assigning, assigns, Sides, sides}
@@ -79,6 +80,13 @@ lines = sentences false
 
 abbrev pub questions : Language
 questions = sentences true
+
+-- a line that nothing refuses
+pub record Fine (x : Sentence) : Type 0 where
+  pub proper : lines.proper x
+  pub ranged : lines.ranged x ≡ true
+  pub small : lines.small x ≡ true
+  pub semi_static : lines.semi_static x ≡ true
 
 -- the nodes beside a change are those of the condition, or of the two sides
 abbrev pub Conditioned : Clause → Extra → Type 0

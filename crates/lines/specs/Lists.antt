@@ -5,7 +5,8 @@ use Rattle.rbac.specs.Roles.{roles_of}
 use Rattle.rbac.specs.declared.users.User.{User}
 use Rattle.lines.specs.declared.parts.Names.{Names}
 use Rattle.lines.specs.declared.change.Extra.{Extra}
-use Rattle.lines.specs.Entries.{entries, AllShort, all_below, named, repeats}
+use Rattle.lines.specs.Entries.{entries, AllShort, all_below, repeats}
+use Rattle.policy.specs.Tests.{listed as named}
 
 -- what was noted of the roles of a list
 pub record Noted (v : Names) (ns : List ℕ) : Type 0 where

@@ -2,7 +2,7 @@
 use Rattle.std.proofs.Common.{◌≡◌, ℕ, ◌+◌, ◌<◌, ◌≤◌, true, false, ◌||◌, List, map, length, get_or, drop, sym, ap, ◌∙◌, eq-eqb, ne_eqb}
 use Rattle.std.proofs.lemmas.List.{drop_more, drop_all}
 use Rattle.rbac.specs.declared.users.User.{User}
-use Rattle.lines.specs.Entries.{named}
+use Rattle.policy.specs.Tests.{listed as named}
 use Rattle.lines.specs.Lists.{number_of}
 
 module _ (us : List User) (i k : ℕ) (d : User) where

@@ -1,7 +1,8 @@
 // Bytes, numbers, and lists in ascending order.
 ghost use Rattle.std.specs.Prelude.{◌≡◌, ℕ, ◌+◌, ◌-◌, ◌*◌, ◌/◌, ◌%◌, ◌^◌, ◌<◌, ◌≤◌, min, List, [], ◌∷◌, ◌++◌, map, length, decimal};
 ghost use Rattle.rbac.specs.Roles.{roles_of};
-ghost use Rattle.lines.specs.Entries.{entries, named};
+ghost use Rattle.lines.specs.Entries.{entries};
+ghost use Rattle.policy.specs.Tests.{listed as named};
 ghost use Rattle.lines.specs.Lists.{number_of};
 ghost use Rattle.pen.specs.Puts.{Wrote};
 ghost use Rattle.pen.specs.Ascending.{ascending};

@@ -8,6 +8,7 @@ use Rattle.rbac.specs.declared.users.User.{User as AUser}
 use Rattle.tables.specs.declared.tables.Tables.{Tables}
 use Rattle.tables.specs.Entries.{entries}
 use Rattle.tables.specs.View.{names, policy_of}
+use Rattle.tables.proofs.Viewing.{trusted_named}
 use Rattle.deciding.proofs.Viewing.{map_length}
 use Rattle.planning.specs.Seats.{seated}
 
@@ -18,9 +19,8 @@ pub names_listed : (xs : List AUser) (u : ℕ) → names xs u ≡ listed (number
 names_listed [] u = refl
 names_listed (x ∷ xs) u = ap (λ b. eqb u x.number || b) (names_listed xs u)
 
-pub trusted_listed : (t : Tables) (u : ℕ) → (policy_of t).trusted u ≡ listed (numbers (entries t.trusted)) u
-unfolding policy_of
-trusted_listed t u = names_listed (entries t.trusted) u
+pub trusted_listed : (t : Tables) (u : ℕ) → T ((policy_of t).trusted u) → T (listed (numbers (entries t.trusted)) u)
+trusted_listed t u h = subst T (names_listed (entries t.trusted) u) (trusted_named t u h)
 
 pub neither : (a b : Bool) → (a || b) ≡ false → (a ≡ false) × (b ≡ false)
 neither true b e = absurd (both_ways true e refl)
@@ -37,5 +37,5 @@ no_room t list len n l all ge few =
     let (h, below, new) = room 165 (xs ++ ys) (omega arith) in
     clash (listed (xs ++ ys) h) (⊎_elim
     (λ (i : T (seated list len h)). listed_left xs ys h (subst T (names_listed (take len list) h) i))
-    (λ (i : T ((policy_of t).trusted h)). listed_right xs ys h (subst T (trusted_listed t h) i))
+    (λ (i : T ((policy_of t).trusted h)). listed_right xs ys h (trusted_listed t h i))
     (either (seated list len h) ((policy_of t).trusted h) (as_test (seated list len h || (policy_of t).trusted h) (all h (omega arith))))) new

@@ -16,7 +16,7 @@ use Rattle.tables.specs.declared.entries.AssignEntry.{AssignEntry}
 use Rattle.tables.specs.declared.tables.Tables.{Tables}
 use Rattle.tables.specs.Entries.{entries}
 use Rattle.tables.specs.View.{assign_of, policy_of, state_of}
-use Rattle.tables.specs.Valid.{row_at}
+use Rattle.tables.specs.Rows.{row_at}
 use Rattle.deciding.specs.Delegates.{no_user, user_at}
 use Rattle.deciding.proofs.Viewing.{map_length}
 use Rattle.planning.specs.Seats.{Seated, seated}
@@ -54,7 +54,7 @@ measured t list len few rowed trusting = record {
   only_rowed = λ u h. (rowed u).0 (as_true (seated list len u) (subst⁻¹ T (names_listed (take len list) u) h));
   trusting = numbers (entries t.trusted);
   few_trusted = let e = map_length (λ (x : AUser). x.number) (entries t.trusted) in omega arith;
-  all_trusted = λ u h. subst T (trusted_listed t u) h;
+  all_trusted = trusted_listed t;
   assigned_inside = λ u r h. let (l, (j, lj, e, x)) = state_at_lem t u r h in (l, small (row_at t.rows j).roles r x);
   edges_inside = edge_inside t;
   given_inside = given_inside t;

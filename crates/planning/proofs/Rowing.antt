@@ -9,7 +9,11 @@ use Rattle.rbac.specs.Roles.{roles_of}
 use Rattle.tables.specs.declared.entries.Row.{Row}
 use Rattle.tables.specs.declared.tables.Tables.{Tables}
 use Rattle.tables.specs.View.{assigned, state_of}
-use Rattle.tables.specs.Valid.{row_at, Used, Clash}
+use Rattle.tables.specs.Rows.{no_row, row_at, Used, Clash}
+use Rattle.rbac.specs.declared.users.User.{User as AUser}
+use Rattle.deciding.specs.Delegates.{user_at}
+use Rattle.planning.specs.Seats.{seated}
+use Rattle.planning.proofs.Seating.{seated_at}
 
 pub assigned_at : (rows : List Row) (u r : ℕ) → T (assigned rows u r) → (j : ℕ) × (j < length rows) × ((row_at rows j).user.number ≡ u) × T (roles_of (row_at rows j).roles r)
 unfolding assigned

@@ -1,5 +1,5 @@
 -- Users in their slots.
-use Rattle.std.specs.Prelude.{◌≡◌, ℕ, ◌<◌, Bool, false, not, T, List, [], ◌∷◌, take, slice_index_or}
+use Rattle.std.specs.Prelude.{◌≡◌, ℕ, suc, ◌<◌, Bool, true, false, not, T, List, take, slice_index_or}
 use Rattle.policy.specs.Measures.{users}
 use Rattle.policy.specs.Membership.{User, State}
 use Rattle.policy.specs.Rules.{Policy}
@@ -7,8 +7,6 @@ use Rattle.rbac.specs.declared.sets.RoleSet.{RoleSet}
 use Rattle.rbac.specs.declared.users.User.{User as AUser}
 use Rattle.rbac.specs.Roles.{roles_of}
 use Rattle.hierarchy.specs.Edges.{no_roles}
-use Rattle.trees.specs.declared.nodes.Node.{Node}
-use Rattle.trees.specs.declared.nodes.Node.TheVariants.{Role, Permission, User as UserNode, Nobody, Or, And}
 use Rattle.tables.specs.View.{names}
 use Rattle.deciding.specs.Delegates.{user_at}
 
@@ -26,13 +24,3 @@ pub record Seated (p : Policy) (s : State) (list : List AUser) (roles : List Rol
 -- whoever has a role has one of the first slots
 abbrev pub Held : State → List AUser → ℕ → Type 0
 Held s list len = (u r : ℕ) → T (s u r) → T (seated list len u)
-
--- the users that nodes name
-abbrev pub users_in : List Node → List User
-users_in [] = []
-users_in (Role n ∷ ns) = users_in ns
-users_in (Permission n ∷ ns) = users_in ns
-users_in (UserNode u ∷ ns) = u ∷ users_in ns
-users_in (Nobody ∷ ns) = users_in ns
-users_in (Or ∷ ns) = users_in ns
-users_in (And ∷ ns) = users_in ns

@@ -8,16 +8,20 @@ ghost use Rattle.rbac.specs.Roles.{roles_of};
 ghost use Rattle.trees.specs.Reading.{listed as nodes_of};
 ghost use Rattle.tables.specs.Entries.{entries};
 ghost use Rattle.tables.specs.View.{state_of, policy_of, question_of};
-ghost use Rattle.tables.specs.Valid.{Used, Clash};
+ghost use Rattle.tables.specs.Rows.{Used, Apart};
+ghost use Rattle.questions.specs.Naming.{users_in};
+ghost use Rattle.questions.specs.Inquired.{inquired};
 ghost use Rattle.planning.specs.Plans.{Planned};
 ghost use Rattle.planning.specs.Ranks.{Ranked};
-ghost use Rattle.planning.specs.Seats.{Seated, seated, users_in, Held};
+ghost use Rattle.planning.specs.Seats.{Seated, seated, Held};
 
 use crate::ranks::masks_of;
 use crate::seats::{contains, is_trusted, push, seat};
 use deciding::Plan;
 use policy::TRACKED_USERS;
+use questions::Inquiry;
 use rbac::{RoleSet, User};
+use soundness::Valid;
 use tables::{Row, Tables};
 use trees::{Node, UserTree};
 
@@ -50,7 +54,7 @@ fn seat_row(tables: &Tables, row: Row, plan: &mut Plan)
 fn seat_rows(tables: &Tables, list: &[Row], plan: &mut Plan)
     requires same { list.now ≡ tables.now.rows }
     requires all { length list.now ≡ rows }
-    requires apart { (i j : ℕ) → Clash tables.now.rows i j → ⊥ }
+    requires apart { Apart tables.now }
     requires none { plan.old.len ≡ 0 }
     ensures after { Seated (policy_of tables.now) (state_of tables.now) plan.new.users plan.new.roles plan.new.acts plan.new.len }
     ensures rowed { (v : ℕ) → Decides (seated plan.new.users plan.new.len v) (Holder (state_of tables.now) v) }
@@ -116,8 +120,8 @@ fn hire(tables: &Tables, list: &[User], len: usize) -> User
 }
 
 // The users with a row, those named in the question, and one hire, in their slots.
-pub fn plan_of(tables: &Tables, larger: &UserTree, smaller: &UserTree) -> Plan
-    requires apart { (i j : ℕ) → Clash tables.now.rows i j → ⊥ }
+fn plan_in(tables: &Tables, larger: &UserTree, smaller: &UserTree) -> Plan
+    requires apart { Apart tables.now }
     requires few { length (names (question_of larger.now.nodes smaller.now.nodes)) ≤ question_operands }
     ensures planned { Planned (policy_of tables.now) (state_of tables.now) (question_of larger.now.nodes smaller.now.nodes) result.users result.roles result.acts result.len }
     ensures ranked { Ranked (policy_of tables.now) result.masks.seniors result.masks.givers }
@@ -136,4 +140,13 @@ pub fn plan_of(tables: &Tables, larger: &UserTree, smaller: &UserTree) -> Plan
     let hire = hire(tables, &plan.users, plan.len);
     push(&mut plan, hire, RoleSet::from_word(0), true);
     plan
+}
+
+// The plan for a question of a board.
+pub fn plan_of(board: &Valid, asked: &Inquiry) -> Plan
+    ensures planned { Planned (policy_of board.now.tables) (state_of board.now.tables) (inquired asked.now) result.users result.roles result.acts result.len }
+    ensures ranked { Ranked (policy_of board.now.tables) result.masks.seniors result.masks.givers }
+    ensures measured { Measured (policy_of board.now.tables) (state_of board.now.tables) }
+{
+    plan_in(&board.tables, &asked.larger, &asked.smaller)
 }

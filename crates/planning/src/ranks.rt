@@ -92,6 +92,7 @@ fn givers(gives: &[RoleSet], seniors: &[RoleSet]) -> [RoleSet; PERMISSIONS]
     masks
 }
 
+// Worked out once for each question.
 pub fn masks_of(tables: &Tables) -> Masks
     ensures { Ranked (policy_of tables.now) result.seniors result.givers }
 {

@@ -30,6 +30,7 @@ fn trusts(count: usize, places: &[User], user: User) -> bool
     requires { length places.now ≡ trusted_users }
     ensures is { result ≡ names (take count places.now) user.number }
     ensures few { length (take count places.now) ≤ trusted_users }
+    ensures inside { user.number < users }
 {
     contains(places, count.min(places.len()), user)
 }

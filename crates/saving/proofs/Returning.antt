@@ -6,23 +6,27 @@ use Rattle.std.proofs.lemmas.List.{take_all}
 use Rattle.grammar.specs.declared.grounds.Ground.{Ground}
 use Rattle.grammar.specs.declared.grounds.Ground.TheVariants.{Syntax, Range, Measure, NotSemiStatic}
 use Rattle.lines.specs.Languages.{Fails}
-use Rattle.grammar.specs.Phrase.{set, Phrase, meaning, levels, operands, in_range, static, roles_alone, Short}
+use Rattle.policy.specs.Rules.{Condition}
+use Rattle.policy.specs.Sets.{UserSet, as_condition}
+use Rattle.grammar.specs.Phrase.{set, Phrase, render, meaning, levels, operands, in_range, static, roles_alone, Short}
 use Rattle.rbac.specs.Roles.{roles_of}
 use Rattle.rbac.specs.declared.sets.RoleSet.{RoleSet}
 use Rattle.lines.specs.declared.change.Change.{Change}
 use Rattle.lines.specs.declared.change.Extra.{Extra}
 use Rattle.lines.specs.declared.keyword.Keyword.{Keyword}
 use Rattle.lines.specs.declared.keyword.Keyword.TheVariants.{Ua, Pa, Rh, Trust, Assign, Revoke, Always, Never}
-use Rattle.lines.specs.Entries.{entries, all_below, named}
+use Rattle.lines.specs.Entries.{entries, all_below}
+use Rattle.policy.specs.Tests.{listed as named}
 use Rattle.lines.specs.Lists.{number_of}
 use Rattle.lines.specs.Bodies as B
-use Rattle.lines.specs.Bodies.{Row, roles_in, users_in, Clause, always_true, in_set, clause_bytes, ProperClause, clause_ranged, clause_small, condition_of, condition, Assigning, Sides}
-use Rattle.lines.specs.Lines.{bodies, Sentence, lines, Line, Conditioned, Sided, Lists, Trusts, Means, says_ua, says_pa, says_rh, says_trust, says_assign, says_revoke, says_always, says_never}
+use Rattle.lines.specs.Bodies.{Row, roles_in, users_in, Clause, always_true, in_set, clause_bytes, ProperClause, clause_ranged, clause_small, condition, Assigning, Sides}
+use Rattle.lines.specs.Lines.{bodies, Sentence, lines, Line, Conditioned, Sided, Lists, Trusts, Means, says_ua, says_pa, says_rh, says_trust, says_assign, says_revoke, says_always, says_never, Fine}
+use Rattle.pen.specs.Ascending.{ascending}
 use Rattle.pen.specs.Canon.{as_set}
 use Rattle.pen.proofs.Canonical.{canonical}
 use Rattle.saving.specs.Canonical as S
 use Rattle.saving.specs.Canonical.{role_row, condition_text, assign_text, side_text, trust_text, text_of}
-use Rattle.saving.specs.RoundTrip.{Value, ua, pa, rh, revoke, trust, assign, always, never, value_of, Fine, Fits, Back, RoundTrip, ReadBack}
+use Rattle.saving.specs.RoundTrip.{Value, ua, pa, rh, revoke, trust, assign, always, never, value_of, Fits, Back, RoundTrip, ReadBack}
 use Rattle.saving.proofs.Laying.{text_is, is_true, is_set}
 use Rattle.saving.proofs.Ascends.{sorted}
 
@@ -179,7 +183,7 @@ clause_back (in_set p) e q r m h =
       proper = (short p r, ap roles_alone (says p r) ∙ q.1);
       ranged = in_range_lem p r;
       small = and_from _ _ (ap (λ n. leb n 16) (as_many p r) ∙ o.0) (le-leb (levels (as_set (meaning p))) 8 (omega arith));
-      same = ap condition_of (says p r);
+      same = ap as_condition (says p r);
     }
 
 back_assign : (x : Assigning) (n : ℕ) (targets : RoleSet) (e : Extra) → Fine (record { keyword = Assign; body = x }) → n ≡ x.row.subject → Lists (roles_in x.row) targets e → Conditioned x.clause e → Back (value_of Assign x) (assign_text n targets e)

@@ -10,7 +10,8 @@ use Rattle.trees.specs.Trees.{decode}
 use Rattle.lines.specs.declared.change.Change.{Change}
 use Rattle.lines.specs.declared.change.Change.TheVariants.{Ua, Pa, Rh, Trust, Assign, Revoke, Always, Never}
 use Rattle.lines.specs.declared.change.Extra.{Extra}
-use Rattle.lines.specs.Entries.{entries, named}
+use Rattle.lines.specs.Entries.{entries}
+use Rattle.policy.specs.Tests.{listed as named}
 use Rattle.lines.specs.Lists.{number_of}
 use Rattle.pen.specs.Ascending.{ascending}
 use Rattle.pen.specs.Canon.{as_set}

@@ -8,9 +8,10 @@ use Rattle.lines.specs.declared.change.Change.{Change}
 use Rattle.lines.specs.declared.change.Extra.{Extra}
 use Rattle.lines.specs.declared.keyword.Keyword.{Keyword}
 use Rattle.lines.specs.declared.keyword.Keyword.TheVariants.{Ua, Pa, Rh, Trust, Assign, Revoke, Always, Never, Possible, Necessary}
-use Rattle.lines.specs.Entries.{named}
+use Rattle.policy.specs.Tests.{listed as named}
+use Rattle.lines.specs.Languages.{Says}
 use Rattle.lines.specs.Bodies.{roles_in, users_in, condition}
-use Rattle.lines.specs.Lines.{bodies, Sentence, lines, Means}
+use Rattle.lines.specs.Lines.{bodies, Sentence, lines, Fine, Means}
 use Rattle.saving.specs.Canonical.{canonical}
 
 -- what a line says: numbers, the numbers that a list names, a condition, sets
@@ -31,13 +32,6 @@ value_of Always x = always (meaning x.larger) (meaning x.smaller)
 value_of Never x = never (meaning x.larger) (meaning x.smaller)
 value_of Possible x = possible (meaning x.larger) (meaning x.smaller)
 value_of Necessary x = necessary (meaning x.larger) (meaning x.smaller)
-
--- a line that nothing refuses
-pub record Fine (x : Sentence) : Type 0 where
-  pub proper : lines.proper x
-  pub ranged : lines.ranged x ≡ true
-  pub small : lines.small x ≡ true
-  pub semi_static : lines.semi_static x ≡ true
 
 -- the users of a `trust` line have places beside it
 abbrev pub Fits : (k : Keyword) → (bodies k).Form → Type 0

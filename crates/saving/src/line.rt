@@ -1,8 +1,8 @@
 // Lines in their canonical form, into a lent place.
 ghost use Rattle.std.specs.Prelude.{◌≡◌, ◌<◌, ◌≤◌, min, List, ◌++◌, length, Some, None};
 ghost use Rattle.pen.specs.Puts.{Wrote, puts, top};
-ghost use Rattle.lines.specs.Lines.{Sentence, Means};
-ghost use Rattle.saving.specs.RoundTrip.{Fine, Fits, value_of, ReadBack, RoundTrip};
+ghost use Rattle.lines.specs.Lines.{Sentence, Means, Fine};
+ghost use Rattle.saving.specs.RoundTrip.{Fits, value_of, ReadBack, RoundTrip};
 ghost use Rattle.saving.specs.Canonical.{canonical, Trees, AssignTrees, SideTrees, Saved, role_row, condition_text, assign_text, side_text, trust_text};
 
 use grammar::{Ground, Reader};

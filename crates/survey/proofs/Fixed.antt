@@ -5,7 +5,7 @@ use Rattle.std.proofs.lemmas.Bool.{and_parts, and_from, or_left, or_right}
 use Rattle.policy.specs.Sets.{UserSet, members, holders, only, nobody, union, intersection, Static, SemiStatic}
 use Rattle.grammar.specs.Phrase.{static, meaning}
 use Rattle.lines.specs.Bodies.{Sides, sides}
-use Rattle.survey.specs.Questions.{question_of}
+use Rattle.lines.specs.Bodies.{question_of}
 
 fixed : (t : UserSet) → Decides (static t) (Static t)
 fixed (members n) = ((λ e. clash e), λ h. absurd h)

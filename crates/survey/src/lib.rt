@@ -5,7 +5,7 @@ ghost use Rattle.std.specs.Prelude.{◌≡◌, Decides};
 ghost use Rattle.policy.specs.Sets.{SemiStatic};
 ghost use Rattle.lines.specs.Bodies.{Sides, sides};
 ghost use Rattle.survey.specs.Whole.{WholeText};
-ghost use Rattle.survey.specs.Questions.{question_of};
+ghost use Rattle.lines.specs.Bodies.{question_of};
 
 use grammar::Reader;
 use lines::Extra;

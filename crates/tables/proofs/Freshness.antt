@@ -6,21 +6,19 @@ use Rattle.std.proofs.lemmas.List.{get_or_past}
 use Rattle.std.proofs.lemmas.Bool.{cases_lt}
 use Rattle.words.proofs.Bits.{bit_none}
 use Rattle.policy.specs.Membership.{Edges}
-use Rattle.policy.specs.Rules.{AssignRule, RevokeRule, Policy, aatu, Nth}
+use Rattle.policy.specs.Rules.{AssignRule, RevokeRule, Policy, aatu}
 use Rattle.policy.specs.Rules.{Regime as RegimeMeant}
 use Rattle.policy.specs.declared.terms.Regime.TheVariants.{Aatu as aatu_here}
 use Rattle.rbac.specs.declared.sets.RoleSet.{RoleSet}
 use Rattle.rbac.specs.Roles.{roles_of, no_role}
 use Rattle.hierarchy.specs.Edges.{edges_of, no_roles, no_edge}
+use Rattle.policy.specs.Terms.{regime_of}
 use Rattle.tables.specs.declared.entries.Row.{Row}
-use Rattle.tables.specs.declared.entries.AssignEntry.{AssignEntry}
 use Rattle.tables.specs.declared.tables.Tables.{Tables}
 use Rattle.tables.specs.Entries.{entries}
-use Rattle.tables.specs.View.{assigned, state_of, policy_of, requirements_of, assign_of, revoke_of, requirement_of, names, meant}
-use Rattle.tables.specs.Valid.{row_at, no_row, Used, Whole, Sound}
+use Rattle.tables.specs.View.{assigned, state_of, policy_of, requirements_of, assign_of, revoke_of, requirement_of, names}
+use Rattle.tables.specs.Rows.{row_at, no_row, Clash}
 use Rattle.tables.specs.Fresh.{nothing_assigned, new_policy}
-use Rattle.tables.proofs.Viewing.{regime_is, revokes_are}
-use Rattle.tables.proofs.Regular.{RegimeAsks}
 
 never : (b : Bool) → (b && false) ≡ false
 never true = refl
@@ -49,16 +47,16 @@ module _ (t : Tables) (x : Row) (e : RoleSet) (regime : t.regime ≡ aatu_here) 
   pub policy_new : policy_of t ≡ new_policy
   unfolding policy_of
   policy_new =
-      let g = meant t.regime in
+      let g = regime_of t.regime in
       let h = edges_of t.hierarchy in
       let k = λ (n r : ℕ). roles_of (get_or t.gives n no_roles) r in
-      let us = names (entries t.trusted) in
+      let us = λ (u : ℕ). ltb u 65536 && names (entries t.trusted) u in
       let as-now = map assign_of (entries t.assigns) in
       let rs-now = map revoke_of (entries t.revokes) in
-      ap (λ a. made a h k us as-now rs-now) (ap meant regime)
+      ap (λ a. made a h k us as-now rs-now) (ap regime_of regime)
       ∙ ap (λ a. made aatu a k us as-now rs-now) edges
       ∙ ap (λ a. made aatu no_edge a us as-now rs-now) (fun_ext (λ n. fun_ext (λ r. given n r)))
-      ∙ ap (λ a. made aatu no_edge (λ n r. false) a as-now rs-now) (ap names trusted)
+      ∙ ap (λ a. made aatu no_edge (λ n r. false) a as-now rs-now) (fun_ext (λ u. ap (λ l. ltb u 65536 && names l u) trusted ∙ never (ltb u 65536)))
       ∙ ap (λ a. made aatu no_edge (λ n r. false) (λ u. false) a rs-now) (ap (map assign_of) assigns)
       ∙ ap (λ a. made aatu no_edge (λ n r. false) (λ u. false) [] a) (ap (map revoke_of) revokes)
 
@@ -66,21 +64,12 @@ module _ (t : Tables) (x : Row) (e : RoleSet) (regime : t.regime ≡ aatu_here) 
   unfolding state_of
   state_new = fun_ext (λ u. fun_ext (λ r. ap (λ l. ltb u 65536 && assigned l u r) rows ∙ ap (λ b. ltb u 65536 && b) (unassigned 100 x no_role_lem u r) ∙ never (ltb u 65536)))
 
-  unused : (i : ℕ) → i < length t.rows → Used (row_at t.rows i) → ⊥
-  unused i l (r, has) =
-      let many : length t.rows ≡ 100 = ap length rows ∙ length-replicate 100 x in
-      let is : row_at t.rows i ≡ x = ap (λ xs. row_at xs i) rows ∙ get_or-replicate 100 i x no_row (omega arith) in
-      subst T (ap (λ (y : Row). roles_of y.roles r) is ∙ ap (λ f. f r) no_role_lem) has
-
-  pub sound_new : Sound t
-  sound_new = record {
-    apart = λ i j (ij, l, a, b, _). unused j l b;
-    conditions = λ k y n. nobody k y (subst (Nth k y) assigns n);
-    regular = subst⁻¹ (λ (g : RegimeMeant). RegimeAsks g (policy_of t) (state_of t)) (regime_is t ∙ ap meant regime) (revokes_are t ∙ ap (map revoke_of) revokes);
-  }
-    where
-      nobody : (k : ℕ) (y : AssignEntry) → Nth k y [] → Whole y.needs
-      nobody k y n = elim n [ ]
+-- rows without roles are nobody's
+pub apart_new : (rows : List Row) (x : Row) → roles_of x.roles ≡ no_role → rows ≡ replicate 100 x → (i j : ℕ) → Clash rows i j → ⊥
+apart_new rows x no_role_lem all i j (ij, l, a, (r, has), _) =
+    let many : length rows ≡ 100 = ap length all ∙ length-replicate 100 x in
+    let is : row_at rows j ≡ x = ap (λ xs. row_at xs j) all ∙ get_or-replicate 100 j x no_row (omega arith) in
+    subst T (ap (λ (y : Row). roles_of y.roles r) is ∙ ap (λ f. f r) no_role_lem) has
 
 pub requirements_new : (t : Tables) → entries t.requirements ≡ [] → requirements_of t ≡ []
 unfolding requirements_of

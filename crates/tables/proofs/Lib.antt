@@ -5,9 +5,4 @@ pub mod Looking
 pub mod Listing
 pub mod Removing
 pub mod Viewing
-pub mod Naming
-pub mod Regular
-pub mod Marking
-pub mod Wholeness
 pub mod Freshness
-pub mod Stable

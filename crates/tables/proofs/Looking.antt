@@ -1,50 +1,38 @@
--- The row that is found is the user's part of the state.
-use Rattle.std.proofs.Common.{◌≡◌, ℕ, ◌<◌, ◌≤◌, Bool, true, false, ◌&&◌, T, eqb, ltb, length, Decides, sym, ◌∙◌, subst, ⊎_elim, arith, eqb→eq, lt→ltb}
+-- The rows of a user are the user's part of the state.
+use Rattle.std.proofs.Common.{◌≡◌, ℕ, ◌+◌, ◌<◌, Bool, true, false, ◌&&◌, ◌||◌, T, eqb, ltb, List, [], ◌∷◌, length, take, Decides, sym, refl, ap, ◌∙◌, subst, ap₂, arith, lt→ltb}
 use mathlib.Core.Path.{subst⁻¹, fun_ext}
-use Rattle.std.proofs.lemmas.Bool.{cases_eq, cases_lt, eq-eqb}
+use Rattle.std.proofs.lemmas.List.{take_all}
 use Rattle.policy.specs.Membership.{Member}
 use Rattle.policy.specs.Sets.{HasPermission}
-use Rattle.policy.proofs.Tests.{first, second, both, agree, as_true, as_test}
+use Rattle.policy.proofs.Tests.{as_true, as_test}
 use Rattle.rbac.specs.declared.sets.RoleSet.{RoleSet}
-use Rattle.rbac.specs.Roles.{roles_of, no_role}
+use Rattle.rbac.specs.Roles.{roles_of}
+use Rattle.tables.specs.declared.entries.Row.{Row}
 use Rattle.tables.specs.declared.tables.Tables.{Tables}
 use Rattle.tables.specs.View.{assigned, state_of, policy_of}
-use Rattle.tables.specs.Valid.{row_at}
-use Rattle.tables.specs.Rows.{is_of, Apart}
-use Rattle.tables.proofs.Placing.{assigned_gives, assigned_at}
-use Rattle.tables.proofs.Rowing.{of_used, not_of, holder_gives}
+use Rattle.tables.specs.Rows.{row_at, no_row}
+use Rattle.tables.proofs.Listing.{any, any_more}
+use Rattle.tables.proofs.Placing.{says}
 
-pub row_found : (t : Tables) (i u : ℕ) → i < length t.rows → u < 65536 → is_of u (row_at t.rows i) ≡ true → Apart t → roles_of (row_at t.rows i).roles ≡ state_of t u
+-- what these rows assign to one user
+abbrev pub saying : ℕ → Row → ℕ → Bool
+saying u x r = says x u r
+
+assigned_any : (rows : List Row) (u r : ℕ) → any (saying u) rows r ≡ assigned rows u r
+unfolding assigned
+assigned_any [] u r = refl
+assigned_any (x ∷ xs) u r = ap (λ b. says x u r || b) (assigned_any xs u r)
+
+-- one row more
+pub row_more : (rows : List Row) (i u : ℕ) → i < length rows → (before here after : ℕ → Bool) → ((r : ℕ) → before r ≡ any (saying u) (take i rows) r) → ((r : ℕ) → here r ≡ says (row_at rows i) u r)
+    → after ≡ (λ r. before r || here r) → (r : ℕ) → after r ≡ any (saying u) (take (i + 1) rows) r
+row_more rows i u l before here after b h e r = ap (λ f. f r) e ∙ ap₂ (λ x y. x || y) (b r) (h r) ∙ sym (any_more (saying u) rows i no_row l r)
+
+-- all rows are passed
+pub rows_passed : (t : Tables) (i u : ℕ) → length t.rows ≡ 100 → i ≡ 100 → u < 65536 → (s : ℕ → Bool) → ((r : ℕ) → s r ≡ any (saying u) (take i t.rows) r) → s ≡ state_of t u
 unfolding state_of
-row_found t i u lt small is-of apart = fun_ext (λ r. agree (roles_of (row_at t.rows i).roles r) (ltb u 65536 && assigned t.rows u r) (there r) (back r))
-  where
-    x : Rattle.tables.specs.declared.entries.Row.Row
-    x = row_at t.rows i
-
-    there : (r : ℕ) → T (roles_of x.roles r) → T (ltb u 65536 && assigned t.rows u r)
-    there r h =
-        let (used, number) = of_used u x is-of in
-        both (ltb u 65536) (assigned t.rows u r) (lt→ltb u 65536 small)
-        (assigned_at t.rows u r i lt (both (eqb u x.user.number) (roles_of x.roles r) (as_test (eqb u x.user.number) (eq-eqb u x.user.number (sym number))) h))
-
-    back : (r : ℕ) → T (ltb u 65536 && assigned t.rows u r) → T (roles_of x.roles r)
-    back r h =
-        let (used, number) = of_used u x is-of in
-        let (j, l, s) = assigned_gives t.rows u r (second (ltb u 65536) (assigned t.rows u r) h) in
-        let y = row_at t.rows j in
-        let has : T (roles_of y.roles r) = second (eqb u y.user.number) (roles_of y.roles r) s in
-        let at : u ≡ y.user.number = eqb→eq u y.user.number (first (eqb u y.user.number) (roles_of y.roles r) s) in
-        ⊎_elim
-        (λ (e : j ≡ i). subst (λ (k : ℕ). T (roles_of (row_at t.rows k).roles r)) e has)
-        (λ (ne : j ≡ i → ⊥). absurd (⊎_elim
-        (λ (b : j < i). apart j i (b, lt, (r, has), used, sym at ∙ sym number))
-        (λ (b : i ≤ j). apart i j (omega (arith, ne), l, used, (r, has), number ∙ at))
-        (cases_lt j i)))
-        (cases_eq j i)
-
-pub row_none : (t : Tables) (u : ℕ) → length t.rows ≡ 100 → ((k : ℕ) → k < 100 → is_of u (row_at t.rows k) ≡ false) → no_role ≡ state_of t u
-row_none t u many none = fun_ext (λ r. agree false (state_of t u r) (λ h. absurd h)
-    (λ h. let (j, l, used, e) = holder_gives t u (r, h) in not_of u (row_at t.rows j) (none j (omega arith)) used (sym e)))
+rows_passed t i u many last small s is = fun_ext (λ r.
+    is r ∙ ap (λ xs. any (saying u) xs r) (take_all i t.rows (omega arith)) ∙ assigned_any t.rows u r ∙ ap (λ b. b && assigned t.rows u r) (sym (as_true (ltb u 65536) (lt→ltb u 65536 small))))
 
 -- a permission is had where its roles and the user's memberships meet
 pub permission_told : (t : Tables) (u n : ℕ) (row given reached : RoleSet) (r : Bool) → roles_of given ≡ (policy_of t).gives n

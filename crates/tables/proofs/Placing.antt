@@ -7,8 +7,7 @@ use Rattle.rbac.specs.Roles.{roles_of}
 use Rattle.rbac.proofs.Masks.{roles_past}
 use Rattle.tables.specs.declared.entries.Row.{Row}
 use Rattle.tables.specs.View.{assigned}
-use Rattle.tables.specs.Valid.{row_at, Used}
-use Rattle.tables.specs.Rows.{is_used}
+use Rattle.tables.specs.Rows.{row_at, Used, is_used}
 
 -- what one row says
 abbrev pub says : Row → ℕ → ℕ → Bool

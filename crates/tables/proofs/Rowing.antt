@@ -17,8 +17,7 @@ use Rattle.tables.specs.declared.entries.Row.{Row}
 use Rattle.tables.specs.declared.rows.RowChange.TheVariants.{Give, Take}
 use Rattle.tables.specs.declared.tables.Tables.{Tables}
 use Rattle.tables.specs.View.{assigned, state_of}
-use Rattle.tables.specs.Valid.{row_at, Used, Clash}
-use Rattle.tables.specs.Rows.{is_used, is_of, with_rows, Changed, Apart, plus, minus, Done, Full, Unassigned}
+use Rattle.tables.specs.Rows.{row_at, Used, Clash, is_used, is_of, with_rows, Changed, Lent, Apart, plus, minus, Done, Full, Unassigned}
 use Rattle.tables.proofs.Placing.{says, assigned_gives, assigned_at, used_gives, gives_used}
 use Rattle.tables.proofs.Assigning.{here, there, one_more, one_less, still_apart}
 

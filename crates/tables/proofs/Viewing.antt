@@ -1,10 +1,13 @@
 -- The parts of the policy that the tables say, as lists of their entries.
-use Rattle.std.proofs.Common.{◌≡◌, map, refl}
+use Rattle.std.proofs.Common.{◌≡◌, ℕ, ◌<◌, ◌&&◌, T, ltb, List, map, sym, refl, ap, lt→ltb}
+use Rattle.policy.specs.Rules.{Regime as RegimeMeant}
+use Rattle.policy.proofs.Tests.{second, as_true}
+use Rattle.policy.specs.Terms.{regime_of}
 use Rattle.tables.specs.declared.tables.Tables.{Tables}
 use Rattle.tables.specs.Entries.{entries}
-use Rattle.tables.specs.View.{policy_of, assign_of, revoke_of, meant, names}
+use Rattle.tables.specs.View.{policy_of, assign_of, revoke_of, names}
 
-pub regime_is : (t : Tables) → (policy_of t).regime ≡ meant t.regime
+pub regime_is : (t : Tables) → (policy_of t).regime ≡ regime_of t.regime
 unfolding policy_of
 regime_is t = refl
 
@@ -16,6 +19,11 @@ pub revokes_are : (t : Tables) → (policy_of t).revokes ≡ map revoke_of (entr
 unfolding policy_of
 revokes_are t = refl
 
-pub trusted_are : (t : Tables) → (policy_of t).trusted ≡ names (entries t.trusted)
+-- those who are trusted stand in the list, and of users in range nobody else does
+pub trusted_named : (t : Tables) (u : ℕ) → T ((policy_of t).trusted u) → T (names (entries t.trusted) u)
 unfolding policy_of
-trusted_are t = refl
+trusted_named t u h = second (ltb u 65536) (names (entries t.trusted) u) h
+
+pub trusted_is : (t : Tables) (u : ℕ) → u < 65536 → names (entries t.trusted) u ≡ (policy_of t).trusted u
+unfolding policy_of
+trusted_is t u l = ap (λ b. b && names (entries t.trusted) u) (sym (as_true (ltb u 65536) (lt→ltb u 65536 l)))

@@ -1,5 +1,5 @@
 -- What happens to the rows when one of them is changed, and to the state that they say.
-use Rattle.std.specs.Prelude.{◌≡◌, ℕ, ◌<◌, Bool, true, false, not, ◌&&◌, ◌||◌, List, MatchBool, Option, MatchOption, ◌==◌, slice_set}
+use Rattle.std.specs.Prelude.{◌≡◌, ℕ, ◌<◌, Bool, true, false, not, ◌&&◌, ◌||◌, T, List, length, MatchBool, Option, MatchOption, ◌==◌, slice_index_or, slice_set}
 use Rattle.words.specs.Words.{with}
 use Rattle.policy.specs.Measures.{roles}
 use Rattle.policy.specs.Membership.{State}
@@ -14,7 +14,26 @@ use Rattle.tables.specs.declared.rows.RowChange.{RowChange}
 use Rattle.tables.specs.declared.rows.RowChange.TheVariants.{Give, Take}
 use Rattle.tables.specs.declared.tables.Tables.{Tables}
 use Rattle.tables.specs.View.{state_of}
-use Rattle.tables.specs.Valid.{row_at, Clash}
+
+-- what is read past the last row
+abbrev pub no_row : Row
+no_row = record { user = record { number = 0 }; roles = record { word = 0 } }
+
+-- the row at a place, counted from 0
+abbrev pub row_at : List Row → ℕ → Row
+row_at rows i = slice_index_or rows i no_row
+
+-- some role stands in the row
+abbrev pub Used : Row → Type 0
+Used x = (r : RoleNumber) × T (roles_of x.roles r)
+
+-- two rows in use have one user
+abbrev pub Clash : List Row → ℕ → ℕ → Type 0
+Clash rows i j = (i < j) × (j < length rows) × Used (row_at rows i) × Used (row_at rows j) × ((row_at rows i).user.number ≡ (row_at rows j).user.number)
+
+-- no user has two rows
+abbrev pub Apart : Tables → Type 0
+Apart t = (i j : ℕ) → Clash t.rows i j → ⊥
 
 -- a row is in use while some role stands in it, and it is this user's where it is in use and has that number
 unfoldable pub is_used : Row → Bool
@@ -50,10 +69,6 @@ pub record Lent (t : Tables) (place : ℕ) (change : RowChange) (after : Tables)
 -- the first place below n that passes the test, or none
 abbrev pub FirstBelow : (ℕ → Bool) → ℕ → Option ℕ → Type 0
 FirstBelow test n r = MatchOption r ((k : ℕ) → k < n → test k ≡ false) (λ i. (i < n) × (test i ≡ true) × ((k : ℕ) → k < i → test k ≡ false))
-
--- no user has two rows
-abbrev pub Apart : Tables → Type 0
-Apart t = (i j : ℕ) → Clash t.rows i j → ⊥
 
 -- the state with one pair more, and with one less
 abbrev pub plus : State → UserNumber → RoleNumber → State

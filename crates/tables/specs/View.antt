@@ -1,13 +1,12 @@
 -- What the tables say: a state, a policy and standing requirements, in the words of the meaning. Everything above the tables speaks of these alone.
-use Rattle.std.specs.Prelude.{ℕ, Bool, false, ◌&&◌, ◌||◌, List, [], ◌∷◌, map, Some, None, Option, ◌==◌, nat_lt, slice_index_or}
-use Rattle.policy.specs.Measures.{users, roles}
+use Rattle.std.specs.Prelude.{ℕ, Bool, true, false, not, ◌&&◌, ◌||◌, List, [], ◌∷◌, map, Some, None, Option, ◌==◌, nat_lt, slice_index_or}
+use Rattle.policy.specs.Measures.{users}
 use Rattle.policy.specs.Membership.{State}
-use Rattle.policy.specs.Rules.{Condition, everybody, in_role, both, either, AssignRule, RevokeRule, Policy}
-use Rattle.policy.specs.Rules.{Regime as RegimeMeant, aatu, aar}
-use Rattle.policy.specs.Sets.{UserSet, members, holders, only, nobody, union, intersection, Question}
+use Rattle.policy.specs.Rules.{Condition, everybody, AssignRule, RevokeRule, Policy}
+use Rattle.policy.specs.Sets.{UserSet, nobody, as_condition, Question}
 use Rattle.policy.specs.Requirements.{Requirement, always, never}
-use Rattle.policy.specs.declared.terms.Regime.{Regime}
-use Rattle.policy.specs.declared.terms.Regime.TheVariants.{Aatu, Aar}
+use Rattle.policy.specs.Terms.{regime_of}
+use Rattle.rbac.specs.declared.sets.RoleSet.{RoleSet}
 use Rattle.rbac.specs.declared.users.User.{User}
 use Rattle.rbac.specs.Roles.{roles_of}
 use Rattle.hierarchy.specs.Edges.{edges_of, no_roles}
@@ -41,15 +40,6 @@ or_nobody None = nobody
 abbrev pub set_of : Nodes → UserSet
 set_of n = or_nobody (decode (listed n))
 
--- a set of roles as a condition; what is no role is met by nobody, as a role out of range is
-abbrev pub as_condition : UserSet → Condition
-as_condition (members r) = in_role r
-as_condition (holders n) = in_role roles
-as_condition (only u) = in_role roles
-as_condition nobody = in_role roles
-as_condition (union x y) = either (as_condition x) (as_condition y)
-as_condition (intersection x y) = both (as_condition x) (as_condition y)
-
 abbrev pub condition_of : Needs → Condition
 condition_of Everybody = everybody
 condition_of (Roles n) = as_condition (set_of n)
@@ -76,16 +66,12 @@ abbrev pub names : List User → ℕ → Bool
 names [] u = false
 names (x ∷ xs) u = u == x.number || names xs u
 
-abbrev pub meant : Regime → RegimeMeant
-meant Aatu = aatu
-meant Aar = aar
-
 unfoldable pub policy_of : Tables → Policy
 policy_of t = record {
-  regime = meant t.regime;
+  regime = regime_of t.regime;
   edge = edges_of t.hierarchy;
   gives = λ n r. roles_of (slice_index_or t.gives n no_roles) r;
-  trusted = names (entries t.trusted);
+  trusted = λ u. nat_lt u users && names (entries t.trusted) u;
   assigns = map assign_of (entries t.assigns);
   revokes = map revoke_of (entries t.revokes);
 }

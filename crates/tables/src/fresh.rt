@@ -2,7 +2,8 @@
 ghost use Rattle.std.specs.Prelude.{◌≡◌, []};
 ghost use Rattle.rbac.specs.Roles.{roles_of, no_role};
 ghost use Rattle.tables.specs.View.{state_of, policy_of, requirements_of};
-ghost use Rattle.tables.specs.Valid.{Sound};
+ghost use Rattle.tables.specs.Entries.{entries};
+ghost use Rattle.tables.specs.Rows.{Apart};
 ghost use Rattle.tables.specs.Fresh.{nothing_assigned, new_policy};
 
 use crate::bounded::Bounded;
@@ -69,7 +70,8 @@ impl Tables {
         ensures policy { policy_of result ≡ new_policy }
         ensures state { state_of result ≡ nothing_assigned }
         ensures requirements { requirements_of result ≡ [] }
-        ensures sound { Sound result }
+        ensures apart { Apart result }
+        ensures nobody { entries result.trusted ≡ [] }
     {
         Tables {
             regime: Regime::Aatu,

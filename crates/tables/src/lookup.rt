@@ -1,33 +1,49 @@
 // Of which roles a user is a member, and which permissions that gives.
-ghost use Rattle.std.specs.Prelude.{◌≡◌, Decides};
+ghost use Rattle.std.specs.Prelude.{◌≡◌, ℕ, ◌<◌, ◌&&◌, Decides, ◌==◌};
+ghost use Rattle.policy.specs.Measures.{users};
 ghost use Rattle.policy.specs.Membership.{Member};
 ghost use Rattle.policy.specs.Sets.{HasPermission};
 ghost use Rattle.rbac.specs.Roles.{roles_of};
 ghost use Rattle.tables.specs.View.{state_of, policy_of};
-ghost use Rattle.tables.specs.Rows.{Apart};
 
+use crate::entries::Row;
 use crate::tables::Tables;
+use policy::ROWS;
 use rbac::{Permission, Role, RoleSet, User};
 
-impl Tables {
-    // The roles assigned to a user. Where users have one row each, as on every board, that is the row's.
-    pub fn assigned(&self, user: User) -> RoleSet
-        ensures { Apart self.now → roles_of result ≡ state_of self.now user.number }
+impl Row {
+    // The row's roles, where it is this user's.
+    fn roles_of(&self, user: User) -> RoleSet
+        ensures says { (r : ℕ) → roles_of result r ≡ (user.number == self.now.user.number && roles_of self.now.roles r) }
+        ensures user { user.number < users }
     {
-        match self.place_of(user) {
-            Some(place) => self.rows[place].roles,
-            None => RoleSet::empty(),
+        if user.number() == self.user.number() {
+            return self.roles;
         }
+        RoleSet::empty()
+    }
+}
+
+impl Tables {
+    // The roles assigned to a user.
+    pub fn assigned(&self, user: User) -> RoleSet
+        ensures { roles_of result ≡ state_of self.now user.number }
+    {
+        let mut roles = RoleSet::empty();
+        for i in 0..ROWS {
+            roles = roles.union(self.rows[i].roles_of(user));
+        }
+        roles
     }
 
     pub fn is_member(&self, user: User, role: Role) -> bool
-        ensures { Apart self.now → Decides result (Member (policy_of self.now).edge (state_of self.now user.number) role.number) }
+        ensures { Decides result (Member (policy_of self.now).edge (state_of self.now user.number) role.number) }
     {
         self.hierarchy.members(self.assigned(user)).contains(role)
     }
 
     pub fn has_permission(&self, user: User, permission: Permission) -> bool
-        ensures { Apart self.now → Decides result (HasPermission (policy_of self.now) (state_of self.now user.number) permission.number) }
+        ensures { Decides result (HasPermission (policy_of self.now) (state_of self.now user.number) permission.number) }
     {
         let given = self.gives[permission.number() as usize];
         self.hierarchy.members(self.assigned(user)).meets(given)

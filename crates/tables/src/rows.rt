@@ -1,8 +1,7 @@
 // Rows: one is found by its user, lent for a change, and free again when its last role goes.
 ghost use Rattle.std.specs.Prelude.{◌≡◌, ℕ, ◌<◌, true, false, not, length, IfNone, MatchOption};
 ghost use Rattle.policy.specs.Measures.{users, rows};
-ghost use Rattle.tables.specs.Rows.{Changed, Lent, FirstBelow, is_used, is_of, Assigned, Unassigned};
-ghost use Rattle.tables.specs.Valid.{row_at};
+ghost use Rattle.tables.specs.Rows.{Changed, Lent, FirstBelow, is_used, is_of, Assigned, Unassigned, row_at};
 
 use crate::entries::Row;
 use crate::tables::Tables;
@@ -32,7 +31,7 @@ impl Row {
     }
 
     // The number of the user, where the row is in use.
-    pub(crate) fn holder(&self) -> Option<u16>
+    pub fn holder(&self) -> Option<u16>
         ensures { MatchOption result (is_used self.now ≡ false) (λ n. (is_used self.now ≡ true) × (n ≡ self.now.user.number) × (n < users)) }
     {
         if self.is_used() {

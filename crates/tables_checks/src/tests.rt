@@ -2,8 +2,12 @@
 use hierarchy::Edge;
 use policy::Regime;
 use rbac::{Permission, Role, RoleSet, User};
+use soundness::{
+    Valid, admins_are_assigned, admins_are_no_targets, assignable_is_revocable, conditions_whole,
+    held, is_sound, regime_kept, revocable, rows_apart,
+};
 use std::test::Fail;
-use tables::{AssignEntry, Bounded, Needs, RevokeEntry, Row, Tables, Valid};
+use tables::{AssignEntry, Bounded, Needs, RevokeEntry, Row, Tables};
 use trees::{Node, Nodes};
 
 #[test]
@@ -11,9 +15,9 @@ fn a_new_board_is_sound_and_empty(rt: HostRuntime) -> Result<(), Fail> {
     let tables = Tables::new();
     let user = User::new(0).ok_or(1)?;
     let role = Role::new(0).ok_or(1)?;
-    assert!(rt; tables.is_sound());
+    assert!(rt; is_sound(&tables));
     assert!(rt; !tables.is_member(user, role));
-    assert!(rt; tables.held().is_empty());
+    assert!(rt; held(&tables).is_empty());
     assert!(rt; Valid::new(tables).is_some());
     Ok(())
 }
@@ -33,7 +37,7 @@ fn the_hundred_and_first_user_has_no_row(rt: HostRuntime) -> Result<(), Fail> {
     assert!(rt; !tables.is_member(late, role));
     assert!(rt; tables.assign(early, more));
     assert_eq!(rt; tables.assigned(early).word(), 0x60);
-    assert!(rt; tables.is_sound());
+    assert!(rt; is_sound(&tables));
     Ok(())
 }
 
@@ -68,12 +72,12 @@ fn two_rows_of_one_user_are_no_board(rt: HostRuntime) -> Result<(), Fail> {
         user,
         roles: RoleSet::one(role),
     };
-    assert!(rt; tables.is_sound());
+    assert!(rt; is_sound(&tables));
     tables.rows[99] = tables.rows[3];
-    assert!(rt; !tables.rows_apart());
+    assert!(rt; !rows_apart(&tables));
     assert!(rt; Valid::new(tables).is_none());
     tables.rows[99].roles = RoleSet::empty();
-    assert!(rt; tables.rows_apart());
+    assert!(rt; rows_apart(&tables));
     Ok(())
 }
 
@@ -132,11 +136,11 @@ fn revocable_board() -> Option<Tables> {
 fn an_administering_role_is_no_target(rt: HostRuntime) -> Result<(), Fail> {
     let mut tables = revocable_board().ok_or(1)?;
     let admin = Role::new(1).ok_or(1)?;
-    assert!(rt; tables.regime_kept());
+    assert!(rt; regime_kept(&tables));
     tables.revokes.places[0].targets = tables.revokes.places[0].targets.insert(admin);
-    assert!(rt; !tables.admins_are_no_targets());
-    assert!(rt; tables.admins_are_assigned() & tables.assignable_is_revocable());
-    assert!(rt; !tables.regime_kept());
+    assert!(rt; !admins_are_no_targets(&tables));
+    assert!(rt; admins_are_assigned(&tables) & assignable_is_revocable(&tables));
+    assert!(rt; !regime_kept(&tables));
     Ok(())
 }
 
@@ -146,9 +150,9 @@ fn an_administering_role_is_assigned(rt: HostRuntime) -> Result<(), Fail> {
     let user = User::new(1).ok_or(1)?;
     let admin = Role::new(1).ok_or(1)?;
     tables.unassign(user, admin);
-    assert!(rt; !tables.admins_are_assigned());
-    assert!(rt; tables.admins_are_no_targets() & tables.assignable_is_revocable());
-    assert!(rt; !tables.is_sound());
+    assert!(rt; !admins_are_assigned(&tables));
+    assert!(rt; admins_are_no_targets(&tables) & assignable_is_revocable(&tables));
+    assert!(rt; !is_sound(&tables));
     Ok(())
 }
 
@@ -156,11 +160,11 @@ fn an_administering_role_is_assigned(rt: HostRuntime) -> Result<(), Fail> {
 fn what_is_assigned_can_be_revoked(rt: HostRuntime) -> Result<(), Fail> {
     let mut tables = revocable_board().ok_or(1)?;
     assert!(rt; tables.revokes.remove(0));
-    assert!(rt; !tables.assignable_is_revocable());
-    assert!(rt; tables.admins_are_no_targets() & tables.admins_are_assigned());
-    assert!(rt; !tables.regime_kept());
+    assert!(rt; !assignable_is_revocable(&tables));
+    assert!(rt; admins_are_no_targets(&tables) & admins_are_assigned(&tables));
+    assert!(rt; !regime_kept(&tables));
     tables.regime = Regime::Aatu;
-    assert!(rt; tables.regime_kept());
+    assert!(rt; regime_kept(&tables));
     Ok(())
 }
 
@@ -169,11 +173,11 @@ fn each_regime_excludes_what_it_does_not_know(rt: HostRuntime) -> Result<(), Fai
     let user = User::new(1).ok_or(1)?;
     let mut tables = revocable_board().ok_or(1)?;
     assert!(rt; tables.trusted.push(user));
-    assert!(rt; !tables.regime_kept());
+    assert!(rt; !regime_kept(&tables));
     tables.regime = Regime::Aatu;
-    assert!(rt; !tables.regime_kept());
+    assert!(rt; !regime_kept(&tables));
     assert!(rt; tables.revokes.remove(0));
-    assert!(rt; tables.regime_kept());
+    assert!(rt; regime_kept(&tables));
     Ok(())
 }
 
@@ -186,15 +190,15 @@ fn a_condition_is_a_set_of_roles(rt: HostRuntime) -> Result<(), Fail> {
     at[2] = Node::And;
     at[3] = Node::User(1);
     tables.assigns.places[0].needs = Needs::Roles(Nodes { at, len: 3 });
-    assert!(rt; tables.conditions_whole());
+    assert!(rt; conditions_whole(&tables));
     tables.assigns.places[0].needs = Needs::Roles(Nodes { at, len: 2 });
-    assert!(rt; !tables.conditions_whole());
+    assert!(rt; !conditions_whole(&tables));
     at[1] = Node::Role(64);
     tables.assigns.places[0].needs = Needs::Roles(Nodes { at, len: 3 });
-    assert!(rt; !tables.conditions_whole());
+    assert!(rt; !conditions_whole(&tables));
     at[1] = Node::Permission(1);
     tables.assigns.places[0].needs = Needs::Roles(Nodes { at, len: 3 });
-    assert!(rt; !tables.is_sound());
+    assert!(rt; !is_sound(&tables));
     Ok(())
 }
 

@@ -29,8 +29,7 @@ use Rattle.trees.specs.Trees.{balanced, decode}
 use Rattle.trees.proofs.Whole.{balanced_whole, whole_balanced, inverse}
 use Rattle.tables.specs.declared.entries.Needs.{Needs}
 use Rattle.tables.specs.declared.entries.Needs.TheVariants.{Everybody, Roles}
-use Rattle.tables.specs.View.{set_of, or_nobody, question_of}
-use Rattle.tables.specs.Valid.{Whole}
+use Rattle.soundness.specs.Valid.{Whole}
 use Rattle.deciding.specs.declared.runs.RunStep.{RunStep}
 use Rattle.deciding.specs.declared.plan.Plan.{Plan}
 use Rattle.deciding.specs.Masked.{whole_needs}
@@ -39,8 +38,8 @@ use Rattle.planning.specs.Seats.{seated}
 use Rattle.verdicts.specs.Looking.{Says, Sought, change_of, changes}
 use Rattle.verdicts.specs.Ready.{Ready}
 use Rattle.verdicts.specs.Candidates.{adds_to, Candidate}
-use Rattle.verdicts.specs.Verdict.{still, all_still, fixed_side, sought_by}
-use Rattle.verdicts.proofs.Tracked.{seated_looked}
+use Rattle.verdicts.specs.Verdict.{sought_by}
+use Rattle.verdicts.proofs.Tracked.{tracking, seated_looked}
 use Rattle.verdicts.proofs.Stripping.{holder_seated}
 
 pub whole_needs_lem : (n : Needs) → Whole n → whole_needs n ≡ true
@@ -53,62 +52,6 @@ says_start p s q plan z ws e = record {
   rows = λ i l. ap (λ w. roles_of (record { word = w })) (e i l) ∙ z.planned.seats.rows i l;
   others = λ u r h. holder_seated p s q plan z u r h;
 }
-
--- static sets have static nodes
-still_joined : (xs ys : List Node) → all_still (xs ++ ys) ≡ (all_still xs && all_still ys)
-still_joined [] ys = refl
-still_joined (x ∷ xs) ys = ap (λ b. still x && b) (still_joined xs ys) ∙ and_assoc (still x) (all_still xs) (all_still ys)
-  where
-    and_assoc : (a b c : Bool) → (a && (b && c)) ≡ ((a && b) && c)
-    and_assoc true b c = refl
-    and_assoc false b c = refl
-
-and_on : (a b : Bool) → (a && (b && (true && true))) ≡ (a && b)
-and_on true true = refl
-and_on true false = refl
-and_on false b = refl
-
-two_parts : (x y : UserSet) (n : Node) → still n ≡ true → all_still (postfix x ++ (postfix y ++ n ∷ [])) ≡ (all_still (postfix x) && all_still (postfix y))
-two_parts x y n e =
-    still_joined (postfix x) (postfix y ++ n ∷ []) ∙ ap (λ b. all_still (postfix x) && b) (still_joined (postfix y) (n ∷ []) ∙ ap (λ b. all_still (postfix y) && (b && true)) e)
-    ∙ and_on (all_still (postfix x)) (all_still (postfix y))
-
-parts : (a b : Bool) → (a && b) ≡ true → (a ≡ true) × (b ≡ true)
-parts true b e = (refl, e)
-parts false b e = absurd (both_ways false refl e)
-
-still_static : (x : UserSet) → all_still (postfix x) ≡ true → Static x
-still_static (members r) e = both_ways false refl e
-still_static (holders n) e = both_ways false refl e
-still_static (only u) e = tt
-still_static nobody e = tt
-still_static (union x y) e = let (a, b) = parts (all_still (postfix x)) (all_still (postfix y)) (sym (two_parts x y Or refl) ∙ e) in (still_static x a, still_static y b)
-still_static (intersection x y) e = let (a, b) = parts (all_still (postfix x)) (all_still (postfix y)) (sym (two_parts x y And refl) ∙ e) in (still_static x a, still_static y b)
-
-static_still : (x : UserSet) → Static x → all_still (postfix x) ≡ true
-static_still (members r) h = absurd h
-static_still (holders n) h = absurd h
-static_still (only u) h = refl
-static_still nobody h = refl
-static_still (union x y) h = two_parts x y Or refl ∙ ap₂ ◌&&◌ (static_still x h.0) (static_still y h.1)
-static_still (intersection x y) h = two_parts x y And refl ∙ ap₂ ◌&&◌ (static_still x h.0) (static_still y h.1)
-
-pub static_fixed : (a b : Nodes) → balanced 0 (nodes_of a) ≡ true → SemiStatic (question_of a b) → Static (side (fixed_side (all_still (nodes_of a))) (question_of a b))
-static_fixed a b w semi = go (all_still (nodes_of a)) refl semi
-  where
-    x : UserSet
-    x = (balanced_whole (nodes_of a) w).0
-
-    is : nodes_of a ≡ postfix x
-    is = (balanced_whole (nodes_of a) w).1
-
-    set_is : set_of a ≡ x
-    set_is = ap or_nobody (ap decode is ∙ inverse.there x)
-
-    go : (t : Bool) → all_still (nodes_of a) ≡ t → SemiStatic (question_of a b) → Static (side (fixed_side t) (question_of a b))
-    go true e semi = subst⁻¹ Static set_is (still_static x (ap all_still (sym is) ∙ e))
-    go false e (inl h) = absurd (both_ways (all_still (nodes_of a)) e (ap all_still is ∙ static_still x (subst Static set_is h)))
-    go false e (inr h) = h
 
 -- the first steps of a run
 run_take : (m : Moves) (s : State) (n : ℕ) (xs : List Change) → Run m s xs → Run m s (take n xs)

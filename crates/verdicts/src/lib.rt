@@ -13,3 +13,4 @@ mod work;
 
 pub use settle::decide;
 pub use verdict::Verdict;
+pub use work::Work;

@@ -2,8 +2,10 @@ use Rattle.std.proofs.Common.{◌≡◌, ◌+◌, ◌≤◌, ◌||◌, [], ◌�
 use Rattle.policy.specs.Tests.{listed}
 use Rattle.policy.proofs.Tests.{as_true, as_test}
 use Rattle.trees.specs.declared.nodes.Node.TheVariants.{Role}
-use Rattle.planning.specs.Seats.{seated, users_in}
-use Rattle.planning.proofs.Named.{next_node, no_node, node_count, node_shift, or_off}
+use Rattle.questions.specs.Naming.{users_in}
+use Rattle.planning.specs.Seats.{seated}
+use Rattle.questions.proofs.Names.{next_node, no_node, node_count, or_off}
+use Rattle.planning.proofs.Named.{node_shift}
 use Rattle.planning.proofs.plans.seat_named.Goals as goal
 
 pub seat_node-requires : goal.seat_node-requires

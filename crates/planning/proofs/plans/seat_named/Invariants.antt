@@ -2,7 +2,8 @@ use Rattle.std.proofs.Common.{◌≡◌, ℕ, ◌+◌, ◌≤◌, true, ◌||◌
 use Rattle.policy.specs.Tests.{listed}
 use Rattle.trees.specs.Reading.{listed as nodes_of}
 use Rattle.tables.specs.View.{state_of, policy_of}
-use Rattle.planning.specs.Seats.{Seated, seated, users_in}
+use Rattle.questions.specs.Naming.{users_in}
+use Rattle.planning.specs.Seats.{Seated, seated}
 use Rattle.planning.proofs.plans.seat_named.Given as goal
 
 abbrev pub invariant-loop-i : goal.invariant-loop-i

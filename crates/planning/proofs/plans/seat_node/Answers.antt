@@ -1,6 +1,6 @@
 use Rattle.std.proofs.Common.{arith}
 use Rattle.tables.specs.View.{state_of}
-use Rattle.planning.proofs.Named.{no_row}
+use Rattle.planning.proofs.Named.{no_row, one_name}
 use Rattle.planning.proofs.plans.seat_node.Goals as goal
 
 pub seat-requires : goal.seat-requires

@@ -2,7 +2,7 @@ use Rattle.std.proofs.Common.{◌≡◌, ◌<◌, length, Decides, sym, refl, ap
 use mathlib.Core.Path.{subst⁻¹}
 use Rattle.rbac.specs.Roles.{roles_of}
 use Rattle.tables.specs.View.{state_of, policy_of}
-use Rattle.tables.specs.Valid.{row_at, Used}
+use Rattle.tables.specs.Rows.{row_at, Used}
 use Rattle.planning.specs.Seats.{seated}
 use Rattle.planning.proofs.Seating.{none_seated, none_at, seated_at}
 use Rattle.planning.proofs.Rowing.{Rowed, row_state, rowed_none, rowed_more, rowed_all}

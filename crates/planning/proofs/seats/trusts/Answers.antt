@@ -7,4 +7,5 @@ pub returns : goal.returns
 returns c = record {
   is = c.contains.ensures.is ∙ ap (λ xs. names xs c.args.user.number) (ap (λ n. take n c.args.places.now) c.min.ensures ∙ take_some c.args.count c.args.places.now);
   few = simp length-take (omega arith);
+  inside = c.contains.ensures.inside;
 }

@@ -1,25 +1,22 @@
 use Rattle.std.proofs.Common.{take, arith}
 use mathlib.Core.Path.{subst⁻¹}
-use Rattle.policy.specs.Sets.{Static}
-use Rattle.policy.specs.Terms.{side}
-use Rattle.tables.specs.View.{policy_of, state_of, question_of}
-use Rattle.verdicts.specs.Ready.{Ready}
+use Rattle.tables.specs.View.{policy_of, state_of}
+use Rattle.questions.specs.Inquired.{inquired}
 use Rattle.verdicts.specs.Candidates.{adds_to}
 use Rattle.verdicts.proofs.Candidates.{each_sits}
-use Rattle.verdicts.proofs.Settling.{whole_needs_lem, says_start, static_fixed}
+use Rattle.verdicts.proofs.Settling.{says_start}
 use Rattle.verdicts.proofs.Concluding.{found, not_found}
 use Rattle.verdicts.proofs.settle.decide_in.Goals as goal
 
 pub run_to-n-requires : goal.run_to-n-requires
 run_to-n-requires c =
     let t = c.args.tables.now in
-    let q = question_of c.args.larger.now.nodes c.args.smaller.now.nodes in
-    let x = c.plan_of-plan.result in
-    let e = c.plan_of-plan.ensures in
-    let ready : Ready (policy_of t) (state_of t) q x = record { planned = e.planned; ranked = e.ranked; measured = e.measured; regular = c.requires.sound.regular; semi = c.requires.asked.is_semi_static } in
+    let q = inquired c.args.asked.now in
+    let x = c.args.plan.now in
+    let ready = c.requires.ready in
     record {
       ready = ready;
-      whole = λ k a n. whole_needs_lem a.needs (c.requires.sound.conditions k a n);
+      whole = c.requires.whole;
       start = says_start (policy_of t) (state_of t) q x ready c.fill.new.work c.fill.ensures.words;
       room = omega (arith, c.fill.ensures.room, c.requires.room);
       places = omega arith;
@@ -28,10 +25,9 @@ run_to-n-requires c =
 pub first_shown-requires : goal.first_shown-requires
 first_shown-requires c =
     let t = c.args.tables.now in
-    let q = question_of c.args.larger.now.nodes c.args.smaller.now.nodes in
-    let x = c.plan_of-plan.result in
-    let e = c.plan_of-plan.ensures in
-    let ready : Ready (policy_of t) (state_of t) q x = record { planned = e.planned; ranked = e.ranked; measured = e.measured; regular = c.requires.sound.regular; semi = c.requires.asked.is_semi_static } in
+    let q = inquired c.args.asked.now in
+    let x = c.args.plan.now in
+    let ready = c.requires.ready in
     let long = c.run_to-n.ensures.places in
     record {
       room = omega (arith, c.fill-2.ensures.room, c.run_to-n.ensures.room, c.fill.ensures.room, c.requires.room);
@@ -44,22 +40,20 @@ first_shown-requires c =
 pub returns-in-Some : goal.returns-in-Some
 returns-in-Some c =
     let t = c.args.tables.now in
-    let q = question_of c.args.larger.now.nodes c.args.smaller.now.nodes in
-    let x = c.plan_of-plan.result in
-    let e = c.plan_of-plan.ensures in
-    let ready : Ready (policy_of t) (state_of t) q x = record { planned = e.planned; ranked = e.ranked; measured = e.measured; regular = c.requires.sound.regular; semi = c.requires.asked.is_semi_static } in
-    found c.args.kind (policy_of t) (state_of t) q x ready c.decided_at-place.result c.run_to-n.result c.run_to-n.new.list c.run_to-n.ensures.run
+    let q = inquired c.args.asked.now in
+    let x = c.args.plan.now in
+    let ready = c.requires.ready in
+    found c.args.asked.now.kind (policy_of t) (state_of t) q x ready c.decided_at-place.result c.run_to-n.result c.run_to-n.new.list c.run_to-n.ensures.run
     c.adds_to-adds.result c.sought-sought.result c.adds_to-adds.ensures c.sought-sought.ensures c.in-Some.steps c.in-Some.ensures
     c.args.list.now c.copy.new.to c.copy.ensures.copied c.copy.ensures.rest
 
 pub returns-in-None : goal.returns-in-None
 returns-in-None c =
     let t = c.args.tables.now in
-    let q = question_of c.args.larger.now.nodes c.args.smaller.now.nodes in
-    let x = c.plan_of-plan.result in
-    let e = c.plan_of-plan.ensures in
-    let ready : Ready (policy_of t) (state_of t) q x = record { planned = e.planned; ranked = e.ranked; measured = e.measured; regular = c.requires.sound.regular; semi = c.requires.asked.is_semi_static } in
-    not_found c.args.kind (policy_of t) (state_of t) q x ready c.decided_at-place.result c.run_to-n.result c.run_to-n.new.list c.run_to-n.ensures.run
-    c.adds_to-adds.result c.sought-sought.result c.adds_to-adds.ensures c.sought-sought.ensures c.fixed_side-fixed.result c.decided_at-place.ensures
-    (subst⁻¹ (λ f. Static (side f q)) c.fixed_side-fixed.ensures (static_fixed c.args.larger.now.nodes c.args.smaller.now.nodes c.args.larger.now.whole c.requires.asked.is_semi_static))
+    let q = inquired c.args.asked.now in
+    let x = c.args.plan.now in
+    let ready = c.requires.ready in
+    not_found c.args.asked.now.kind (policy_of t) (state_of t) q x ready c.decided_at-place.result c.run_to-n.result c.run_to-n.new.list c.run_to-n.ensures.run
+    c.adds_to-adds.result c.sought-sought.result c.adds_to-adds.ensures c.sought-sought.ensures c.fixed_side.result c.decided_at-place.ensures
+    c.fixed_side.ensures
     c.in-None.ensures c.args.list.now

@@ -1,5 +1,5 @@
 use Rattle.std.proofs.Common.{map, sym, add-one}
-use Rattle.lines.specs.Entries.{named}
+use Rattle.policy.specs.Tests.{listed as named}
 use Rattle.lines.specs.Lists.{number_of}
 use Rattle.pen.proofs.Join.{entry_first, entry_yes, entry_no, join, here}
 use Rattle.pen.proofs.writer.Writer.users.Goals as goal

@@ -1,5 +1,6 @@
 use Rattle.std.proofs.Common.{map}
-use Rattle.lines.specs.Entries.{entries, named}
+use Rattle.lines.specs.Entries.{entries}
+use Rattle.policy.specs.Tests.{listed as named}
 use Rattle.lines.specs.Lists.{number_of}
 use Rattle.pen.specs.Ascending.{ascending}
 use Rattle.pen.specs.Puts.{Wrote}

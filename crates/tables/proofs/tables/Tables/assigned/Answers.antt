@@ -1,11 +1,18 @@
-use Rattle.std.proofs.Common.{◌<◌, length, ◌∙◌, arith}
-use Rattle.tables.proofs.Looking.{row_found, row_none}
+use Rattle.std.proofs.Common.{ap, arith}
+use Rattle.rbac.specs.Roles.{roles_of}
+use Rattle.tables.proofs.Looking.{row_more, rows_passed}
 use Rattle.tables.proofs.tables.Tables.assigned.Goals as goal
 
-pub returns-in-Some : goal.returns-in-Some
-returns-in-Some c apart =
-    let lt : c.in-Some.place < length c.args.self.now.rows = omega (arith, c.place_of.ensures.full, c.in-Some.ensures.first.0) in
-    row_found c.args.self.now c.in-Some.place c.args.user.number lt c.place_of.ensures.user c.in-Some.ensures.first.1 apart
+pub loop-i-init : goal.loop-i-init
+loop-i-init c = ((λ r. ap (λ f. f r) c.empty-roles.ensures), (λ l. absurd (omega arith)), λ l. absurd (omega arith))
 
-pub returns-in-None : goal.returns-in-None
-returns-in-None c apart = c.empty.ensures ∙ row_none c.args.self.now c.args.user.number c.place_of.ensures.full c.in-None.ensures.first
+pub loop-i-preserved : goal.loop-i-preserved
+loop-i-preserved c = (
+  row_more c.args.self.now.rows c.loop-i.i c.args.user.number (omega arith) (roles_of c.loop-i.roles) (roles_of c.roles_of.result) (roles_of c.union-roles.result) c.loop-i.invariant.0 c.roles_of.ensures.says c.union-roles.ensures,
+  (λ l. c.roles_of.ensures.user),
+  λ l. omega arith,
+)
+
+pub returns : goal.returns
+returns c =
+    rows_passed c.args.self.now c.loop-i.i c.args.user.number (c.loop-i.invariant.2 (omega arith)) (omega arith) (c.loop-i.invariant.1 (omega arith)) (roles_of c.loop-i.roles) c.loop-i.invariant.0

@@ -1,6 +1,5 @@
 use Rattle.std.proofs.Common.{◌≡◌, ℕ, ◌<◌, false, not}
-use Rattle.tables.specs.Rows.{is_used}
-use Rattle.tables.specs.Valid.{row_at}
+use Rattle.tables.specs.Rows.{is_used, row_at}
 use Rattle.tables.proofs.tables.Tables.free_place.Given as goal
 
 abbrev pub invariant-loop-i : goal.invariant-loop-i

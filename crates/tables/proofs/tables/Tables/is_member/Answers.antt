@@ -5,6 +5,6 @@ use Rattle.tables.proofs.tables.Tables.is_member.Goals as goal
 
 pub returns : goal.returns
 unfolding policy_of
-returns c apart =
-    subst₂ (λ (b : Bool) (row : Row). Decides b (Member (policy_of c.args.self.now).edge row c.args.role.number)) (sym c.contains.ensures) (c.assigned.ensures apart)
+returns c =
+    subst₂ (λ (b : Bool) (row : Row). Decides b (Member (policy_of c.args.self.now).edge row c.args.role.number)) (sym c.contains.ensures) c.assigned.ensures
     (c.members.ensures c.args.role.number)

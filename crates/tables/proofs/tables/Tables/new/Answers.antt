@@ -1,5 +1,5 @@
 use Rattle.std.proofs.Common.{refl}
-use Rattle.tables.proofs.Freshness.{policy_new, state_new, sound_new, requirements_new}
+use Rattle.tables.proofs.Freshness.{policy_new, state_new, apart_new, requirements_new}
 use Rattle.tables.proofs.tables.Tables.new.Goals as goal
 
 pub returns : goal.returns
@@ -7,5 +7,6 @@ returns c = record {
   policy = policy_new _ c.blank_row.result c.empty.result refl c.blank_row.ensures refl c.empty.ensures refl c.new.ensures c.new-2.ensures c.new-3.ensures c.new-4.ensures;
   state = state_new _ c.blank_row.result c.empty.result refl c.blank_row.ensures refl c.empty.ensures refl c.new.ensures c.new-2.ensures c.new-3.ensures c.new-4.ensures;
   requirements = requirements_new _ c.new-5.ensures;
-  sound = sound_new _ c.blank_row.result c.empty.result refl c.blank_row.ensures refl c.empty.ensures refl c.new.ensures c.new-2.ensures c.new-3.ensures c.new-4.ensures;
+  apart = apart_new _ c.blank_row.result c.blank_row.ensures refl;
+  nobody = c.new-2.ensures;
 }

@@ -1,7 +1,6 @@
 use Rattle.std.proofs.Common.{◌≡◌, ℕ, ◌<◌, false, length}
 use Rattle.policy.specs.Measures.{users, rows}
-use Rattle.tables.specs.Rows.{is_of}
-use Rattle.tables.specs.Valid.{row_at}
+use Rattle.tables.specs.Rows.{is_of, row_at}
 use Rattle.tables.proofs.tables.Tables.place_of.Given as goal
 
 abbrev pub invariant-loop-i : goal.invariant-loop-i

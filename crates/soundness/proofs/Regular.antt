@@ -1,7 +1,6 @@
 -- The regime's properties, from the sets of roles that they speak of.
-use Rattle.std.proofs.Common.{◌≡◌, ℕ, ◌<◌, Bool, true, false, not, ◌&&◌, ◌||◌, T, eqb, ltb, List, [], ◌∷◌, map, length, Decides, sym, refl, ap, ◌∙◌, subst, inl, inr, ⊎_elim, lt→ltb}
+use Rattle.std.proofs.Common.{◌≡◌, ℕ, ◌<◌, Bool, true, false, not, ◌&&◌, ◌||◌, T, eqb, ltb, ◌⊎◌, List, [], ◌∷◌, map, length, get_or, is_some, Some, None, Decides, Option, sym, refl, ap, ◌∙◌, subst, inl, inr, ⊎_elim, lt→ltb, MatchOption}
 use mathlib.Core.Path.{subst⁻¹}
-use lib.Dec.{eqb_refl}
 use lib.ListN.{length-map}
 use Rattle.std.proofs.lemmas.List.{nil_from_length}
 use Rattle.std.proofs.lemmas.Bool.{both_ways, eq-eqb, eqb-true, and_parts, and_from}
@@ -10,18 +9,19 @@ use Rattle.policy.specs.Rules.{Policy, aatu, aar}
 use Rattle.policy.specs.Rules.{Regime as RegimeMeant}
 use Rattle.policy.specs.declared.terms.Regime.TheVariants.{Aatu as aatu_here, Aar as aar_here}
 use Rattle.policy.specs.Regimes.{Administers, Assignable, Revocable, AdminsAreNoTargets, AdminsAreAssigned, AssignableIsRevocable, Aatu, Aar, Regular}
-use Rattle.policy.proofs.Tests.{either, or_left, or_right, clash, second, both, as_true, as_test}
+use Rattle.policy.proofs.Tests.{either, or_left, or_right, clash, first, second, both, deny, as_true, as_test}
 use Rattle.rbac.specs.declared.sets.RoleSet.{RoleSet}
 use Rattle.rbac.specs.declared.users.User.{User}
 use Rattle.rbac.specs.Roles.{roles_of, of_either}
+use Rattle.policy.specs.Terms.{regime_of}
 use Rattle.tables.specs.declared.entries.AssignEntry.{AssignEntry}
 use Rattle.tables.specs.declared.entries.RevokeEntry.{RevokeEntry}
-use Rattle.tables.specs.declared.regime.Named.{Named}
+use Rattle.soundness.specs.declared.regime.Named.{Named}
 use Rattle.tables.specs.declared.tables.Tables.{Tables}
 use Rattle.tables.specs.Entries.{entries}
-use Rattle.tables.specs.Named.{OfAssigns, OfRevokes}
-use Rattle.tables.specs.View.{assigned, state_of, policy_of, assign_of, revoke_of, names, meant}
-use Rattle.tables.proofs.Viewing.{regime_is}
+use Rattle.soundness.specs.Named.{OfAssigns, OfRevokes}
+use Rattle.tables.specs.View.{assigned, state_of, policy_of, assign_of, revoke_of, names}
+use Rattle.tables.proofs.Viewing.{regime_is, trusted_named, trusted_is}
 
 pub assignable_told : (t : Tables) (es : List AssignEntry) → es ≡ entries t.assigns → (x : Named) → OfAssigns (map assign_of es) x → (r : ℕ) → Decides (roles_of x.targets r) (Assignable (policy_of t) r)
 unfolding policy_of
@@ -91,31 +91,44 @@ RegimeAsks g p s = elim g [ aatu ↦ Aatu p | aar ↦ Aar p s ]
 
 pub aatu_kept : (t : Tables) (es : List RevokeEntry) (r : Bool) → t.regime ≡ aatu_here → es ≡ entries t.revokes → r ≡ eqb (length es) 0 → Decides r (Regular (policy_of t) (state_of t))
 unfolding policy_of
-aatu_kept t es r here is-es is-r = subst⁻¹ (λ (g : RegimeMeant). Decides r (RegimeAsks g (policy_of t) (state_of t))) (regime_is t ∙ ap meant here) (
+aatu_kept t es r here is-es is-r = subst⁻¹ (λ (g : RegimeMeant). Decides r (RegimeAsks g (policy_of t) (state_of t))) (regime_is t ∙ ap regime_of here) (
   (λ e. ap (map revoke_of) (sym is-es ∙ nil_from_length es (eqb-true (length es) 0 (sym is-r ∙ e)))),
   λ none. is-r ∙ eq-eqb (length es) 0 (sym (length-map es revoke_of) ∙ ap (λ l. length (map revoke_of l)) is-es ∙ ap length none),
 )
 
-nobody_named : (us : List User) → ((u : ℕ) → T (not (names us u))) → length us ≡ 0
-nobody_named [] f = refl
-nobody_named (x ∷ xs) f = absurd (clash (names (x ∷ xs) x.number) (or_left (eqb x.number x.number) (names xs x.number) (eqb_refl x.number)) (f x.number))
+-- the first of a list is found where the list has one, and then somebody is trusted
+abbrev pub FirstNamed : List User → Option ℕ → Type 0
+FirstNamed us o = MatchOption o (length us ≡ 0) (λ n. (n < 65536) × T (names us n))
 
-pub aar_kept : (t : Tables) (us : List User) (none a b c : Bool) → t.regime ≡ aar_here → us ≡ entries t.trusted → none ≡ eqb (length us) 0
+pub first_is_named : (us : List User) (n : ℕ) → false ≡ eqb (length us) 0 → n ≡ (get_or us 0 (record { number = 0 })).number → T (names us n)
+first_is_named [] n some is = absurd (both_ways false refl (some ∙ eq-eqb 0 0 refl))
+first_is_named (x ∷ xs) n some is = or_left (eqb n x.number) (names xs n) (as_test _ (eq-eqb n x.number is))
+
+nobody_trusted : (t : Tables) (o : Option ℕ) (none : Bool) → FirstNamed (entries t.trusted) o → is_some o ≡ not none → Decides none ((u : ℕ) → T (not ((policy_of t).trusted u)))
+nobody_trusted t None none empty is = (
+  (λ _ u. deny ((policy_of t).trusted u) (λ h. subst (λ (l : List User). T (names l u)) (nil_from_length (entries t.trusted) empty) (trusted_named t u h))),
+  λ _. other none is,
+)
+  where
+    other : (b : Bool) → false ≡ not b → b ≡ true
+    other true e = refl
+    other false e = e
+nobody_trusted t (Some n) none (small, named) is = (
+  (λ e. absurd (both_ways true (is ∙ ap not e) refl)),
+  λ f. absurd (clash ((policy_of t).trusted n) (subst T (trusted_is t n small) named) (f n)),
+)
+
+pub aar_kept : (t : Tables) (us : List User) (o : Option ℕ) (none a b c : Bool) → t.regime ≡ aar_here → us ≡ entries t.trusted → FirstNamed us o → is_some o ≡ not none
     → Decides a (AdminsAreNoTargets (policy_of t)) → Decides b (AdminsAreAssigned (policy_of t) (state_of t)) → Decides c (AssignableIsRevocable (policy_of t))
     → Decides (((none && a) && b) && c) (Regular (policy_of t) (state_of t))
-unfolding policy_of
-aar_kept t us none a b c here is_us is_none da db dc = subst⁻¹ (λ (g : RegimeMeant). Decides (((none && a) && b) && c) (RegimeAsks g (policy_of t) (state_of t))) (regime_is t ∙ ap meant here) (
+aar_kept t us o none a b c here is_us named is_none da db dc = subst⁻¹ (λ (g : RegimeMeant). Decides (((none && a) && b) && c) (RegimeAsks g (policy_of t) (state_of t))) (regime_is t ∙ ap regime_of here) (
   (λ e.
       let (abn, hc) = and_parts ((none && a) && b) c e in
       let (an, hb) = and_parts (none && a) b abn in
       let (hn, ha) = and_parts none a an in
-      record {
-        nobody_trusted = λ u. subst⁻¹ (λ (l : List User). T (not (names l u))) (sym is_us ∙ nil_from_length us (eqb-true (length us) 0 (sym is_none ∙ hn))) tt;
-        no_targets = da.0 ha;
-        assigned = db.0 hb;
-        revocable = dc.0 hc;
-      }),
-  λ k. and_from ((none && a) && b) c (and_from (none && a) b (and_from none a
-      (is_none ∙ eq-eqb (length us) 0 (nobody_named us (λ u. subst⁻¹ (λ (l : List User). T (not (names l u))) is_us (k.nobody_trusted u))))
-      (da.1 k.no_targets)) (db.1 k.assigned)) (dc.1 k.revocable),
+      record { nobody_trusted = nobody.0 hn; no_targets = da.0 ha; assigned = db.0 hb; revocable = dc.0 hc }),
+  λ k. and_from ((none && a) && b) c (and_from (none && a) b (and_from none a (nobody.1 k.nobody_trusted) (da.1 k.no_targets)) (db.1 k.assigned)) (dc.1 k.revocable),
 )
+  where
+    nobody : Decides none ((u : ℕ) → T (not ((policy_of t).trusted u)))
+    nobody = nobody_trusted t o none (subst (λ (l : List User). FirstNamed l o) is_us named) is_none

@@ -25,7 +25,7 @@ use Rattle.soundness.specs.Valid.{Whole, Sound}
 use Rattle.soundness.specs.Checks.{all_roles}
 use Rattle.tables.proofs.Listing.{any, any_gives, any_at}
 use Rattle.tables.proofs.Placing.{says, assigned_gives, assigned_at}
-use Rattle.soundness.proofs.Regular.{asked}
+use Rattle.soundness.proofs.Regular.{RegimeAsks}
 use Rattle.soundness.proofs.Wholeness.{alone_is}
 
 -- what cannot be false
@@ -90,7 +90,7 @@ module _ (t : Tables) (r : ℕ) where
 sure_revocable : (p : Policy) (r : ℕ) → Sure (Revocable p r) → Revocable p r
 sure_revocable p r s = revocable_gives p.revokes r (sure_test (revocable p.revokes r) (λ no. s (λ (k, rule, n, h). no (gives_revocable n r h))))
 
-sure_regular : (t : Tables) (g : RegimeMeant) → Sure (asked g (policy_of t) (state_of t)) → asked g (policy_of t) (state_of t)
+sure_regular : (t : Tables) (g : RegimeMeant) → Sure (RegimeAsks g (policy_of t) (state_of t)) → RegimeAsks g (policy_of t) (state_of t)
 sure_regular t aatu s = sure_empty (policy_of t).revokes s
 sure_regular t aar s = record {
   nobody_trusted = λ u. sure_test (not ((policy_of t).trusted u)) (λ no. s (λ k. no (k.nobody_trusted u)));

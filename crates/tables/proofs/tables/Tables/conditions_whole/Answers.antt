@@ -1,8 +1,0 @@
-use Rattle.std.proofs.Common.{ℕ, List, Decides, subst}
-use Rattle.policy.specs.Rules.{Nth}
-use Rattle.tables.specs.declared.entries.AssignEntry.{AssignEntry}
-use Rattle.tables.specs.Valid.{Whole}
-use Rattle.tables.proofs.tables.Tables.conditions_whole.Goals as goal
-
-pub returns : goal.returns
-returns c = subst (λ (es : List AssignEntry). Decides c.all_whole.result ((k : ℕ) (e : AssignEntry) → Nth k e es → Whole e.needs)) c.entries.ensures c.all_whole.ensures
