@@ -18,13 +18,11 @@ impl Hierarchy {
     {
         let system = Seniority { hierarchy: self };
         let mut facts = [assigned.word()];
-        match close(&system, &mut facts, list) {
-            Ok(edges) => Ok(Descent {
-                reached: RoleSet::from_word(facts[0]),
-                edges,
-            }),
-            Err(short) => Err(short),
-        }
+        let edges = close(&system, &mut facts, list)?;
+        Ok(Descent {
+            reached: RoleSet::from_word(facts[0]),
+            edges,
+        })
     }
 
     // The roles of which a user with these assigned roles is a member.
@@ -48,11 +46,9 @@ impl Hierarchy {
 
 // Fills the places of a list before anything stands there.
 fn blank() -> Edge {
-    match Role::new(0) {
-        Some(role) => Edge {
-            senior: role,
-            junior: role,
-        },
-        None => unreachable(),
+    let role = Role::modulo(0);
+    Edge {
+        senior: role,
+        junior: role,
     }
 }

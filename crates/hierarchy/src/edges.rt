@@ -7,7 +7,7 @@ use policy::ROLES;
 use rbac::{Role, RoleSet};
 
 // One role directly senior to another.
-#[derive(Clone, Copy, PartialEq, Eq)]
+#[derive(Clone, Copy, PartialEq, Eq, Debug)]
 pub struct Edge {
     pub senior: Role,
     pub junior: Role,

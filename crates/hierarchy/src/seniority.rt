@@ -20,16 +20,6 @@ pub struct Seniority<'a> {
     pub hierarchy: &'a Hierarchy,
 }
 
-fn role(number: usize) -> Role
-    requires { number < roles }
-    ensures { result.number ≡ number }
-{
-    match Role::new(number as u32) {
-        Some(role) => role,
-        None => unreachable(),
-    }
-}
-
 // Step 64 * q + r stands for the edge from role q down to role r, whether the hierarchy has it or not.
 fn edge(step: usize) -> Edge
     requires { step < roles * roles }
@@ -37,8 +27,8 @@ fn edge(step: usize) -> Edge
     ensures junior { result.junior.number ≡ step % roles }
 {
     Edge {
-        senior: role(step / ROLES),
-        junior: role(step % ROLES),
+        senior: Role::modulo(step / ROLES),
+        junior: Role::modulo(step),
     }
 }
 
@@ -53,7 +43,7 @@ fn leap(hierarchy: &Hierarchy, step: usize, facts: &[u64]) -> usize
         return past;
     }
     let there = RoleSet::from_word(word(facts, 0));
-    if hierarchy.direct(role(senior)).is_within(there) {
+    if hierarchy.direct(Role::modulo(senior)).is_within(there) {
         return past;
     }
     step
@@ -87,14 +77,10 @@ impl<'a> StepSystem for Seniority<'a> {
     }
 
     fn ahead(&self, step: usize, facts: &[u64]) -> usize {
-        let mut at = step;
-        while at < EDGES {
-            let to = leap(self.hierarchy, at, facts);
-            if to == at {
-                return at;
-            }
-            at = to;
+        if step < EDGES {
+            leap(self.hierarchy, step, facts)
+        } else {
+            step
         }
-        at
     }
 }

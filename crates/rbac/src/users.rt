@@ -3,7 +3,7 @@ ghost use Rattle.std.specs.Prelude.{◌≡◌, ◌≤◌, MatchOption};
 ghost use Rattle.policy.specs.Measures.{users};
 
 // A user, 0 to 65,535.
-#[derive(Clone, Copy, PartialEq, Eq)]
+#[derive(Clone, Copy, PartialEq, Eq, Debug)]
 pub struct User {
     number: u16,
 }
@@ -12,22 +12,21 @@ impl User {
     pub fn new(number: u32) -> Option<User>
         ensures { MatchOption result (users ≤ number) (λ u. u.number ≡ number) }
     {
-        match u16::try_from(number) {
-            Ok(number) => Some(User { number }),
-            Err(_) => None,
-        }
-    }
-
-    // Every number of 16 bits is a user's.
-    pub fn of(number: u16) -> User
-        ensures { result.number ≡ number }
-    {
-        User { number }
+        u16::try_from(number).ok().map(User::from)
     }
 
     pub fn number(self) -> u16
         ensures { result ≡ self.number }
     {
         self.number
+    }
+}
+
+// Every number of 16 bits is a user's.
+impl From<u16> for User {
+    ghost from_gives = { λ n u. u.number ≡ n };
+
+    fn from(number: u16) -> User {
+        User { number }
     }
 }

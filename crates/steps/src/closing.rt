@@ -25,7 +25,7 @@ pub fn close<S: StepSystem>(
     Ok(passes(system, facts, list))
 }
 
-// Passes over the steps, from one worth a try to the next, until a pass takes none.
+// Passes over the steps until a pass takes none. A pass goes from one step worth a try to the next, so it is no plain range.
 fn passes<S: StepSystem>(system: &S, facts: &mut [u64], list: &mut [S::Record]) -> usize
     requires words { (S.means system.now).facts ≤ 64 * length facts.old }
     requires places { (S.means system.now).facts ≤ length list.old }
@@ -35,12 +35,17 @@ fn passes<S: StepSystem>(system: &S, facts: &mut [u64], list: &mut [S::Record]) 
     let mut taken = 0;
     'rounds: loop {
         let before = taken;
-        let mut step = system.ahead(0, facts);
+        let mut step = 0;
         'pass: while step < steps {
-            if attempt(system, step, facts, list, taken) {
-                taken += 1;
+            let next = system.ahead(step, facts);
+            if next == step {
+                if attempt(system, step, facts, list, taken) {
+                    taken += 1;
+                }
+                step += 1;
+            } else {
+                step = next;
             }
-            step = system.ahead(step + 1, facts);
         }
         if taken == before {
             return taken;

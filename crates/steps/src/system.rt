@@ -37,7 +37,7 @@ pub trait StepSystem {
         requires opens { (means self.now).opens step (bits facts.now) ≡ true }
         ensures { (means self.now).records step (bits facts.now) result };
 
-    // The next step worth a try, this one or a later one: a system that knows better passes over steps that are shut or make nothing new.
+    // This step where it is worth a try, else a later one: a system that knows better leaps over steps that are shut or make nothing new.
     fn ahead(&self, step: usize, _facts: &[u64]) -> usize
         ensures { Leap (means self.now) step (bits _facts.now) result }
     {

@@ -8,10 +8,7 @@ ghost use Rattle.words.specs.Words.{bits, with};
 pub fn word(words: &[u64], place: usize) -> u64
     ensures { result ≡ slice_index words.now place }
 {
-    if place >= words.len() {
-        return 0;
-    }
-    words[place]
+    words.get(place).copied().unwrap_or(0)
 }
 
 // Whether k is in the set; a number past the row's end is not.
@@ -30,6 +27,6 @@ pub fn put(words: &mut [u64], k: usize) -> bool
     if place >= words.len() {
         return false;
     }
-    words[place] = words[place] | 1 << (k % 64);
+    words[place] |= 1 << (k % 64);
     true
 }
