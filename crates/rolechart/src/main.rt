@@ -6,40 +6,38 @@ mod shop;
 use hierarchy::{Descent, Edge, Hierarchy};
 use policy::ROLES;
 use rbac::{Role, RoleSet};
+use shop::Post;
 use std::io;
 
 fn main(rt: HostRuntime) -> io::Result<()> {
     let chart = shop::hierarchy();
-    for number in 0..shop::STAFF {
-        if let Some(role) = Role::new(number) {
-            entry(&rt, &chart, role)?;
-        }
+    for post in shop::STAFF {
+        entry(&rt, &chart, post)?;
     }
     Ok(())
 }
 
-fn entry(rt: &HostRuntime, chart: &Hierarchy, role: Role) -> io::Result<()> {
+fn entry(rt: &HostRuntime, chart: &Hierarchy, post: Post) -> io::Result<()> {
+    let role = Role::from(post);
     let blank = Edge {
         senior: role,
         junior: role,
     };
     let mut list = [blank; ROLES];
     if let Ok(descent) = chart.descend(RoleSet::one(role), &mut list) {
-        print_roles(rt, role, descent)?;
+        print_roles(rt, post, descent)?;
         print_edges(rt, &list, descent)?;
     }
     Ok(())
 }
 
-fn print_roles(rt: &HostRuntime, role: Role, descent: Descent) -> io::Result<()> {
-    let number = role.number();
-    let name = shop::name(role);
-    print!(rt; "r{number} {name} is senior to")?;
-    for k in 0..64u32 {
-        if let Some(junior) = Role::new(k) {
-            if descent.reached.contains(junior) {
-                print!(rt; " r{k}")?;
-            }
+fn print_roles(rt: &HostRuntime, post: Post, descent: Descent) -> io::Result<()> {
+    let number = Role::from(post).number();
+    print!(rt; "r{number} {post} is senior to")?;
+    for role in (0..64u32).filter_map(Role::new) {
+        if descent.reached.contains(role) {
+            let junior = role.number();
+            print!(rt; " r{junior}")?;
         }
     }
     println!(rt; "")
@@ -47,9 +45,12 @@ fn print_roles(rt: &HostRuntime, role: Role, descent: Descent) -> io::Result<()>
 
 fn print_edges(rt: &HostRuntime, list: &[Edge], descent: Descent) -> io::Result<()> {
     for edge in list.iter().take(descent.edges) {
-        let senior = shop::name(edge.senior);
-        let junior = shop::name(edge.junior);
-        println!(rt; "  {senior} over {junior}")?;
+        if let (Some(senior), Some(junior)) = (
+            shop::post_of(edge.senior),
+            shop::post_of(edge.junior),
+        ) {
+            println!(rt; "  {senior} over {junior}")?;
+        }
     }
     Ok(())
 }

@@ -1,54 +1,95 @@
-// The roles of a firmware shop, and who is directly senior to whom.
+// The posts of a firmware shop, each a role, and who is directly senior to whom.
 use hierarchy::{Edge, Hierarchy};
 use rbac::Role;
+use std::fmt;
 
-// How many roles the shop has, numbered from 0.
-pub(crate) const STAFF: u32 = 12;
+#[derive(Clone, Copy, PartialEq, Eq, Debug)]
+pub(crate) enum Post {
+    Officer,
+    ReleaseLead,
+    SecurityLead,
+    BuildLead,
+    SigningLead,
+    ShippingLead,
+    Builder,
+    BuildContractor,
+    Signer,
+    Shipper,
+    Auditor,
+    Guest,
+}
 
-// Senior and junior. The release lead stands over both the builders' and the signers' leads, who both stand over the auditor: a diamond.
-const EDGES: [(u32, u32); 14] = [
-    (0, 1),
-    (0, 2),
-    (1, 3),
-    (1, 4),
-    (1, 5),
-    (2, 11),
-    (3, 6),
-    (3, 7),
-    (4, 8),
-    (5, 9),
-    (6, 7),
-    (3, 10),
-    (4, 10),
-    (5, 11),
+// All posts, in the order of their roles' numbers.
+pub(crate) const STAFF: [Post; 12] = [
+    Post::Officer,
+    Post::ReleaseLead,
+    Post::SecurityLead,
+    Post::BuildLead,
+    Post::SigningLead,
+    Post::ShippingLead,
+    Post::Builder,
+    Post::BuildContractor,
+    Post::Signer,
+    Post::Shipper,
+    Post::Auditor,
+    Post::Guest,
 ];
 
-pub(crate) fn name(role: Role) -> &'static str {
-    match role.number() {
-        0 => "officer",
-        1 => "release lead",
-        2 => "security lead",
-        3 => "build lead",
-        4 => "signing lead",
-        5 => "shipping lead",
-        6 => "builder",
-        7 => "build contractor",
-        8 => "signer",
-        9 => "shipper",
-        10 => "auditor",
-        11 => "guest",
-        _ => "unnamed",
+// Senior and junior. The release lead stands over both the builders' and the signers' leads, who both stand over the auditor: a diamond.
+const EDGES: [(Post, Post); 14] = [
+    (Post::Officer, Post::ReleaseLead),
+    (Post::Officer, Post::SecurityLead),
+    (Post::ReleaseLead, Post::BuildLead),
+    (Post::ReleaseLead, Post::SigningLead),
+    (Post::ReleaseLead, Post::ShippingLead),
+    (Post::SecurityLead, Post::Guest),
+    (Post::BuildLead, Post::Builder),
+    (Post::BuildLead, Post::BuildContractor),
+    (Post::SigningLead, Post::Signer),
+    (Post::ShippingLead, Post::Shipper),
+    (Post::Builder, Post::BuildContractor),
+    (Post::BuildLead, Post::Auditor),
+    (Post::SigningLead, Post::Auditor),
+    (Post::ShippingLead, Post::Guest),
+];
+
+impl fmt::Display for Post {
+    fn fmt<W: fmt::Write>(&self, f: &mut fmt::Formatter<W>) -> fmt::Result {
+        f.write_str(match self {
+            Post::Officer => "officer",
+            Post::ReleaseLead => "release lead",
+            Post::SecurityLead => "security lead",
+            Post::BuildLead => "build lead",
+            Post::SigningLead => "signing lead",
+            Post::ShippingLead => "shipping lead",
+            Post::Builder => "builder",
+            Post::BuildContractor => "build contractor",
+            Post::Signer => "signer",
+            Post::Shipper => "shipper",
+            Post::Auditor => "auditor",
+            Post::Guest => "guest",
+        })
     }
+}
+
+impl From<Post> for Role {
+    fn from(post: Post) -> Role {
+        Role::modulo(post as usize)
+    }
+}
+
+// The post of a role; none where nobody of the shop has that role.
+pub(crate) fn post_of(role: Role) -> Option<Post> {
+    STAFF.get(role.number() as usize).copied()
 }
 
 pub(crate) fn hierarchy() -> Hierarchy {
     let mut chart = Hierarchy::new();
-    for pair in EDGES {
-        if let Some(senior) = Role::new(pair.0) {
-            if let Some(junior) = Role::new(pair.1) {
-                chart.insert(Edge { senior, junior });
-            }
-        }
+    for (senior, junior) in EDGES {
+        chart.insert(Edge {
+            senior: Role::from(senior),
+            junior: Role::from(junior),
+        });
     }
     chart
 }
