@@ -1,6 +1,6 @@
 -- A stack of bits answers as the set that the nodes say.
 use Rattle.std.proofs.Common.{◌≡◌, ℕ, zero, suc, ◌+◌, ◌*◌, ◌/◌, ◌%◌, ◌^◌, ◌<◌, ◌≤◌, min, max, Bool, true, false, cond, ◌&&◌, ◌||◌, T, eqb, List, [], ◌∷◌, length, get_or, take, drop, Some, None, Decides, Option, sym, refl, ap, ◌∙◌, subst, ap₂, ⊎_elim, pow-suc, add-one, arith}
-use Rattle.std.proofs.lemmas.List.{drop_more, drop_all, length-take-le, get_or-take, get_or_past}
+use Rattle.std.proofs.lemmas.List.{get_or_past}
 use Rattle.std.proofs.lemmas.Bool.Decides.{nat_tests}
 use Rattle.policy.specs.Tests.{some}
 use Rattle.policy.specs.Membership.{Role, Row}
@@ -14,11 +14,9 @@ use Rattle.rbac.proofs.Masks.{roles_none, roles_past}
 use Rattle.hierarchy.specs.Edges.{no_roles}
 use Rattle.trees.specs.declared.nodes.Node.{Node}
 use Rattle.trees.specs.declared.nodes.Node.TheVariants.{Role as RoleNode, Permission, User, Nobody, Or, And}
-use Rattle.trees.specs.declared.nodes.Nodes.{Nodes}
-use Rattle.trees.specs.Reading.{listed}
 use Rattle.trees.specs.Trees.{balanced, decoded, decode}
 use Rattle.trees.proofs.Whole.{balanced_whole, inverse}
-use Rattle.tables.specs.View.{set_of, or_nobody}
+use Rattle.tables.specs.View.{or_nobody}
 use Rattle.deciding.specs.Masked.{down_of, is_one, has_given, leaf_says, in_test, pushed}
 
 -- what the nodes leave on a stack of bits
@@ -79,11 +77,11 @@ module _ (seniors givers : List RoleSet) (who : Option AUser) (row : Row) where
   read (And ∷ ns) (b ∷ []) s x e r = some_not x e
   read (And ∷ ns) (b ∷ a ∷ st) s x e r = read ns (intersection a b ∷ st) (pushed And false s) x e (and_odd s ∙ ap₂ ◌&&◌ r.1.0 r.0, subst (λ v. Reads v st) (sym (and_half s)) r.1.1)
 
-  pub answer : (n : Nodes) → balanced 0 (listed n) ≡ true → (s : ℕ) → s ≡ bits says (listed n) 0 → eqb (s % 2) 1 ≡ test (set_of n)
-  answer n b s e =
-      let (x, is) = balanced_whole (listed n) b in
-      let d : decode (listed n) ≡ Some x = ap decode is ∙ inverse.there x in
-      ap (λ v. eqb (v % 2) 1) e ∙ read (listed n) [] 0 x d tt ∙ ap (λ o. test (or_nobody o)) (sym d)
+  pub answer : (ns : List Node) (s : ℕ) → s ≡ bits says ns 0 → balanced 0 ns ≡ true → eqb (s % 2) 1 ≡ test (or_nobody (decode ns))
+  answer ns s e b =
+      let (x, is) = balanced_whole ns b in
+      let d : decode ns ≡ Some x = ap decode is ∙ inverse.there x in
+      ap (λ v. eqb (v % 2) 1) e ∙ read ns [] 0 x d tt ∙ ap (λ o. test (or_nobody o)) (sym d)
 
 pow_more : (i : ℕ) → 2 ^ (i + 1) ≡ 2 ^ i * 2
 pow_more i = rw add-one (pow-suc 2 i)
@@ -99,17 +97,6 @@ pushed_below (User n) b s i h = leaf_below b s i h
 pushed_below Nobody b s i h = leaf_below b s i h
 pushed_below Or b s i h = let e = pow_more i in omega arith
 pushed_below And b s i h = let e = pow_more i in omega arith
-
--- the nodes in use, one more of them
-pub turn : (says : Node → Bool) (at : List Node) (len i : ℕ) (d : Node) → len ≤ length at → i < len → (s : ℕ)
-    → bits says (drop i (take len at)) s ≡ bits says (drop (i + 1) (take len at)) (pushed (get_or at i d) (says (get_or at i d)) s)
-turn says at len i d short lt s =
-    let e = length-take-le len at short in
-    ap (λ l. bits says l s) (drop_more (take len at) i d (omega arith))
-    ∙ ap (λ n. bits says (drop (i + 1) (take len at)) (pushed n (says n) s)) (get_or-take len at i d lt)
-
-pub finish : (says : Node → Bool) (at : List Node) (len i s : ℕ) → len ≤ length at → len ≤ i → bits says (drop i (take len at)) s ≡ s
-finish says at len i s h l = let e = length-take-le len at h in ap (λ ns. bits says ns s) (drop_all i (take len at) (omega arith))
 
 -- a role in both sets, as a test
 pub shared : (a b : RoleSet) (r : Bool) → Decides r ((k : ℕ) × T (roles_of a k) × T (roles_of b k)) → r ≡ some 64 (λ q. roles_of a q && roles_of b q)

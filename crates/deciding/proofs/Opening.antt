@@ -1,7 +1,8 @@
 -- What the tests of the code say of an open step, and which steps are not worth a try.
-use Rattle.std.proofs.Common.{◌≡◌, ℕ, ◌+◌, ◌*◌, ◌/◌, ◌%◌, ◌<◌, ◌≤◌, Bool, true, false, not, ◌&&◌, ◌||◌, T, ltb, List, get_or, sym, refl, ap, ◌∙◌, subst, ap₂, ⊎_elim, arith, ltb→lt, lt→ltb}
+use Rattle.std.proofs.Common.{◌≡◌, ℕ, ◌+◌, ◌*◌, ◌/◌, ◌%◌, ◌<◌, ◌≤◌, Bool, true, false, not, ◌&&◌, ◌||◌, T, ltb, List, length, get_or, sym, refl, ap, ◌∙◌, subst, ap₂, Option, Some, None, arith, ltb→lt, lt→ltb}
 use mathlib.Core.Path.{fun_ext}
-use Rattle.std.proofs.lemmas.Bool.{cases_lt, both_ways}
+use Rattle.std.specs.Option.{is_some}
+use Rattle.std.proofs.lemmas.Bool.{both_ways}
 use Rattle.words.specs.Words.{bit, bits}
 use Rattle.steps.specs.Steps.{Leap}
 use Rattle.policy.specs.Tests.{some}
@@ -9,11 +10,12 @@ use Rattle.policy.specs.Rules.{Policy, AssignRule}
 use Rattle.policy.specs.Delegation.{member_test, meets_test, row_at, rule_of, slot_of, role_of}
 use Rattle.policy.proofs.Tests.{some_at, some_gives, as_true, as_test, as_false, deny}
 use Rattle.rbac.specs.declared.sets.RoleSet.{RoleSet}
-use Rattle.rbac.specs.declared.users.User.{User as AUser}
+use Rattle.deciding.specs.declared.plan.Slot.{Slot}
 use Rattle.rbac.specs.Roles.{roles_of}
 use Rattle.rbac.proofs.Masks.{of, roles_low}
 use Rattle.deciding.specs.Masked.{down_of}
-use Rattle.deciding.specs.Delegates.{First, user_at, may_act, delegates}
+use Rattle.deciding.specs.Slots.{user_at}
+use Rattle.deciding.specs.Delegates.{FirstBelow, may_act, delegates}
 
 -- a word of the facts is a row
 pub row_is : (ws : List ℕ) (i : ℕ) → row_at (bits ws) i ≡ roles_of (of (get_or ws i 0))
@@ -38,16 +40,13 @@ unfolding bits
 fact_is ws n = sym (roles_low (get_or ws (n / 64) 0) (n % 64) (omega arith))
 
 -- some number passes just where the first one is below
-pub first_some : (test : ℕ → Bool) (n r : ℕ) → First test n r → ltb r n ≡ some n test
-first_some test n r f =
-    ⊎_elim
-    (λ (l : r < n). as_true (ltb r n) (lt→ltb r n l) ∙ sym (as_true (some n test) (some_at n test r l (as_test (test r) (f.here l)))))
-    (λ (l : n ≤ r). as_false (ltb r n) (deny (ltb r n) (λ h. let b : r < n = ltb→lt r n h in absurd (omega arith)))
-    ∙ sym (as_false (some n test) (deny (some n test) (λ h. let (k, lt, t) = some_gives n test h in both_ways (test k) (f.before k (omega (arith, f.within))) (as_true (test k) t)))))
-    (cases_lt r n)
+pub first_some : (test : ℕ → Bool) (n : ℕ) (r : Option ℕ) → FirstBelow test n r → is_some r ≡ some n test
+first_some test n (Some i) (l, here, before) = sym (as_true (some n test) (some_at n test i l (as_test (test i) here)))
+first_some test n None none = sym (as_false (some n test) (deny (some n test) (λ h. let (k, lt, t) = some_gives n test h in both_ways (test k) (none k lt) (as_true (test k) t))))
 
-pub first_below : (test : ℕ → Bool) (n r : ℕ) → First test n r → some n test ≡ true → r < n
-first_below test n r f h = ltb→lt r n (as_test (ltb r n) (first_some test n r f ∙ h))
+-- so there is one where some number passes
+pub some_first : (test : ℕ → Bool) (n : ℕ) → FirstBelow test n None → some n test ≡ true → ⊥
+some_first test n none h = both_ways (some n test) (sym (first_some test n None none)) h
 
 -- the four parts of an open step
 not_second : (x t a m : Bool) → t ≡ false → (x && (t && (a && m))) ≡ false
@@ -89,28 +88,28 @@ part_four true true false m e = absurd (both_ways false refl e)
 part_four true false a m e = absurd (both_ways false refl e)
 part_four false t a m e = absurd (both_ways false refl e)
 
-module _ (p : Policy) (users : List AUser) (len : ℕ) (seniors : List RoleSet) (ws : List ℕ) where
+module _ (p : Policy) (slots : List Slot) (seniors : List RoleSet) (ws : List ℕ) where
   abbrev Opens : ℕ → Bool
-  Opens n = (delegates p users len seniors).opens n (bits ws)
+  Opens n = (delegates p slots seniors).opens n (bits ws)
 
   abbrev acts_by : AssignRule → ℕ → Bool
-  acts_by rule = may_act p users seniors (bits ws) rule.admin
+  acts_by rule = may_act p slots seniors (bits ws) rule.admin
 
   module _ (n : ℕ) where
     abbrev X : Bool
-    X = ltb (slot_of n) len
+    X = ltb (slot_of n) (length slots)
 
     abbrev G : Bool
     G = (rule_of p n).targets (role_of n)
 
     abbrev A : Bool
-    A = some len (acts_by (rule_of p n))
+    A = some (length slots) (acts_by (rule_of p n))
 
     abbrev M : Bool
     M = meets_test (down_of seniors) (row_at (bits ws) (slot_of n)) (rule_of p n).condition
 
-    pub open_slot : Opens n ≡ true → slot_of n < len
-    open_slot o = ltb→lt (slot_of n) len (as_test X (part_one X G A M o))
+    pub open_slot : Opens n ≡ true → slot_of n < length slots
+    open_slot o = ltb→lt (slot_of n) (length slots) (as_test X (part_one X G A M o))
 
     pub open_target : Opens n ≡ true → G ≡ true
     open_target o = part_two X G A M o
@@ -126,8 +125,8 @@ module _ (p : Policy) (users : List AUser) (len : ℕ) (seniors : List RoleSet) 
       met : M ≡ meets_test (down_of seniors) (roles_of there) rule.condition
       met = ap₂ (λ f x. meets_test (down_of seniors) f x.condition) (row_of ws (slot_of n) there row) is
 
-      pub no_slot : len ≤ slot_of n → Opens n ≡ false
-      no_slot l = ap (λ b. b && (G && (A && M))) (as_false X (deny X (λ h. let k : slot_of n < len = ltb→lt (slot_of n) len h in omega arith)))
+      pub no_slot : length slots ≤ slot_of n → Opens n ≡ false
+      no_slot l = ap (λ b. b && (G && (A && M))) (as_false X (deny X (λ h. let k : slot_of n < length slots = ltb→lt (slot_of n) (length slots) h in omega arith)))
 
       pub no_target : rule.targets (role_of n) ≡ false → Opens n ≡ false
       no_target e = not_second X G A M (ap (λ x. x.targets (role_of n)) is ∙ e)
@@ -135,18 +134,18 @@ module _ (p : Policy) (users : List AUser) (len : ℕ) (seniors : List RoleSet) 
       pub needs_unmet : meets_test (down_of seniors) (roles_of there) rule.condition ≡ false → Opens n ≡ false
       needs_unmet e = not_last X G A M (met ∙ e)
 
-      pub open_is : slot_of n < len → rule.targets (role_of n) ≡ true → meets_test (down_of seniors) (roles_of there) rule.condition ≡ true
-          → (r : ℕ) → First (acts_by rule) len r → Opens n ≡ ltb r len
+      pub open_is : slot_of n < length slots → rule.targets (role_of n) ≡ true → meets_test (down_of seniors) (roles_of there) rule.condition ≡ true
+          → (r : Option ℕ) → FirstBelow (acts_by rule) (length slots) r → Opens n ≡ is_some r
       open_is l g m r f =
-          third X G A M (as_true X (lt→ltb (slot_of n) len l)) (ap (λ x. x.targets (role_of n)) is ∙ g) (met ∙ m)
-          ∙ ap (λ x. some len (acts_by x)) is ∙ sym (first_some (acts_by rule) len r f)
+          third X G A M (as_true X (lt→ltb (slot_of n) (length slots) l)) (ap (λ x. x.targets (role_of n)) is ∙ g) (met ∙ m)
+          ∙ ap (λ x. some (length slots) (acts_by x)) is ∙ sym (first_some (acts_by rule) (length slots) r f)
 
-      pub open_actor : Opens n ≡ true → (r : ℕ) → First (acts_by rule) len r → r < len
-      open_actor o r f = first_below (acts_by rule) len r f (sym (ap (λ x. some len (acts_by x)) is) ∙ open_some o)
+      pub open_acts : Opens n ≡ true → FirstBelow (acts_by rule) (length slots) None → ⊥
+      open_acts o none = some_first (acts_by rule) (length slots) none (sym (ap (λ x. some (length slots) (acts_by x)) is) ∙ open_some o)
 
       -- where to go on
       abbrev Go : ℕ → Type 0
-      Go to = Leap (delegates p users len seniors) n (bits ws) to
+      Go to = Leap (delegates p slots seniors) n (bits ws) to
 
       abbrev k : ℕ
       k = n / 8512
@@ -163,10 +162,10 @@ module _ (p : Policy) (users : List AUser) (len : ℕ) (seniors : List RoleSet) 
           let m : j % 8512 % 64 ≡ j % 64 = omega arith in
           fact_is ws (j % 8512) ∙ ap₂ (λ i r. roles_of (of (get_or ws i 0)) r) e m ∙ ap (λ w. roles_of (of w) (role_of j)) (sym row)
 
-  pub leap_end : (n : ℕ) → len ≤ slot_of n → Leap (delegates p users len seniors) n (bits ws) ((n / 8512 + 1) * 8512)
+  pub leap_end : (n : ℕ) → length slots ≤ slot_of n → Leap (delegates p slots seniors) n (bits ws) ((n / 8512 + 1) * 8512)
   leap_end n le = record {
     onward = omega arith;
-    idle = λ j a b lt o. let l : j % 8512 / 64 < len = open_slot j o in let no : ⊥ = omega arith in absurd no;
+    idle = λ j a b lt o. let l : j % 8512 / 64 < length slots = open_slot j o in let no : ⊥ = omega arith in absurd no;
   }
 
   module _ (n : ℕ) (rule : AssignRule) (is : rule_of p n ≡ rule) (there : RoleSet) (row : there.word ≡ get_or ws (slot_of n) 0) where
@@ -201,31 +200,20 @@ module _ (p : Policy) (users : List AUser) (len : ℕ) (seniors : List RoleSet) 
           absurd (both_ways (Opens j) shut o);
     }
 
-    pub leap_rule : (r : ℕ) → First (acts_by rule) len r → r ≡ len → Go n rule is there row ((n / 8512 + 1) * 8512)
-    leap_rule r f e = record {
+    pub leap_rule : FirstBelow (acts_by rule) (length slots) None → Go n rule is there row ((n / 8512 + 1) * 8512)
+    leap_rule none = record {
       onward = omega arith;
-      idle = λ j a b lt o.
-          let has : some len (acts_by rule) ≡ true = sym (ap (λ x. some len (acts_by x)) (same_rule n rule is there row j (omega arith))) ∙ open_some j o in
-          let l : r < len = first_below (acts_by rule) len r f has in
-          let no : ⊥ = omega arith in absurd no;
+      idle = λ j a b lt o. absurd (some_first (acts_by rule) (length slots) none (sym (ap (λ x. some (length slots) (acts_by x)) (same_rule n rule is there row j (omega arith))) ∙ open_some j o));
     }
 
 -- by the step's rule or by what the code found of it
-pub acts_by_lem : (p : Policy) (users : List AUser) (len : ℕ) (seniors : List RoleSet) (ws : List ℕ) (n : ℕ) (rule : AssignRule) → rule_of p n ≡ rule
-    → (j : ℕ) → may_act p users seniors (bits ws) rule.admin j ≡ true → may_act p users seniors (bits ws) (rule_of p n).admin j ≡ true
-acts_by_lem p users len seniors ws n rule is j e = ap (λ x. may_act p users seniors (bits ws) x.admin j) is ∙ e
-
--- one leap after another
-pub leap_on : (p : Policy) (users : List AUser) (len : ℕ) (seniors : List RoleSet) (ws : List ℕ) (a b c : ℕ)
-    → Leap (delegates p users len seniors) a (bits ws) b → Leap (delegates p users len seniors) b (bits ws) c → Leap (delegates p users len seniors) a (bits ws) c
-leap_on p users len seniors ws a b c x y = record {
-  onward = omega (arith, x.onward, y.onward);
-  idle = λ j la lc lt o. ⊎_elim (λ (l : j < b). x.idle j la l lt o) (λ (l : b ≤ j). y.idle j l lc lt o) (cases_lt j b);
-}
+pub acts_by_lem : (p : Policy) (slots : List Slot) (seniors : List RoleSet) (ws : List ℕ) (n : ℕ) (rule : AssignRule) → rule_of p n ≡ rule
+    → (j : ℕ) → may_act p slots seniors (bits ws) rule.admin j ≡ true → may_act p slots seniors (bits ws) (rule_of p n).admin j ≡ true
+acts_by_lem p slots seniors ws n rule is j e = ap (λ x. may_act p slots seniors (bits ws) x.admin j) is ∙ e
 
 -- who may act, as the code tests it
-pub may_is : (p : Policy) (users : List AUser) (seniors : List RoleSet) (ws : List ℕ) (admin j : ℕ) (free : Bool) (there : RoleSet) (b : Bool) (n : ℕ)
-    → free ≡ not (p.trusted (user_at users j)) → there.word ≡ get_or ws j 0 → b ≡ member_test (down_of seniors) (roles_of there) n → n ≡ admin
-    → may_act p users seniors (bits ws) admin j ≡ (free && b)
-may_is p users seniors ws admin j free there b n ef ew eb en =
+pub may_is : (p : Policy) (slots : List Slot) (seniors : List RoleSet) (ws : List ℕ) (admin j : ℕ) (free : Bool) (there : RoleSet) (b : Bool) (n : ℕ)
+    → free ≡ not (p.trusted (user_at slots j)) → there.word ≡ get_or ws j 0 → b ≡ member_test (down_of seniors) (roles_of there) n → n ≡ admin
+    → may_act p slots seniors (bits ws) admin j ≡ (free && b)
+may_is p slots seniors ws admin j free there b n ef ew eb en =
     ap₂ ◌&&◌ (sym ef) (ap₂ (member_test (down_of seniors)) (row_of ws j there ew) (sym en) ∙ sym eb)

@@ -11,6 +11,6 @@ mod sets;
 pub use delegating::rules;
 pub use delegation::Delegation;
 pub use masks::Masks;
-pub use plan::Plan;
+pub use plan::{Plan, Slot};
 pub use runs::RunStep;
 pub use sets::{condition, in_set, member};

@@ -1,21 +1,20 @@
 // The users that a question looks at.
-ghost use Rattle.std.specs.Prelude.{◌≡◌, ◌≤◌, length};
-ghost use Rattle.policy.specs.Measures.{tracked_users};
-
 use crate::masks::Masks;
+use bounded::Bounded;
 use policy::TRACKED_USERS;
 use rbac::{RoleSet, User};
 
-// One slot for each: the user, the roles assigned now, and whether the user may act. The slots from `len` on are not in use.
+// One user, with the roles assigned now, and whether the user may act.
+#[derive(Clone, Copy, PartialEq, Eq, Debug)]
+pub struct Slot {
+    pub user: User,
+    pub roles: RoleSet,
+    pub acts: bool,
+}
+
+// One slot for each user, and the masks that the question is worked out with.
 #[derive(Clone, Copy)]
 pub struct Plan {
     pub masks: Masks,
-    pub users: [User; TRACKED_USERS],
-    pub roles: [RoleSet; TRACKED_USERS],
-    pub acts: [bool; TRACKED_USERS],
-    pub len: usize,
-    ghost few: { len ≤ tracked_users },
-    ghost seats: { length users ≡ tracked_users },
-    ghost assigned: { length roles ≡ tracked_users },
-    ghost free: { length acts ≡ tracked_users },
+    pub slots: Bounded<Slot, TRACKED_USERS>,
 }

@@ -3,24 +3,20 @@ ghost use Rattle.std.specs.Prelude.{◌≡◌, ℕ, ◌^◌, ◌<◌, ◌≤◌,
 ghost use Rattle.policy.specs.Delegation.{member_test, meets_test};
 ghost use Rattle.rbac.specs.Roles.{roles_of};
 ghost use Rattle.hierarchy.specs.Edges.{no_roles};
-ghost use Rattle.trees.specs.Reading.{listed};
-ghost use Rattle.trees.specs.Trees.{balanced};
-ghost use Rattle.tables.specs.View.{set_of, condition_of};
+ghost use Rattle.trees.specs.Trees.{balanced, decode};
+ghost use Rattle.tables.specs.View.{set_of, condition_of, or_nobody};
 ghost use Rattle.deciding.specs.Masked.{down_of, leaf_says, in_test, pushed, whole_needs};
 
 use crate::masks::Masks;
 use rbac::{RoleSet, User};
 use tables::Needs;
-use trees::{Node, Nodes, UserTree};
+use trees::{Node, UserTree};
 
 // The set at a place, and no role past the last.
 fn set_at(sets: &[RoleSet], place: usize) -> RoleSet
     ensures { result ≡ slice_index_or sets.now place no_roles }
 {
-    if place < sets.len() {
-        return sets[place];
-    }
-    RoleSet::from_word(0)
+    sets.get(place).copied().unwrap_or(RoleSet::from_word(0))
 }
 
 // Whether one of these roles is in the set at the place.
@@ -54,16 +50,14 @@ fn push(node: Node, leaf: bool, stack: u64) -> u64
     }
 }
 
-// Whether a user with these roles is in the set that the nodes say.
-fn worked(nodes: &Nodes, masks: &Masks, who: Option<User>, roles: RoleSet) -> bool
-    requires { balanced 0 (listed nodes.now) ≡ true }
-    ensures { result ≡ in_test masks.now.seniors masks.now.givers who (roles_of roles) (set_of nodes.now) }
+// Whether a user with these roles is in the set that the nodes say, where they are a set's.
+fn worked(nodes: &[Node], masks: &Masks, who: Option<User>, roles: RoleSet) -> bool
+    requires { length nodes.now ≤ 63 }
+    ensures { balanced 0 nodes.now ≡ true → result ≡ in_test masks.now.seniors masks.now.givers who (roles_of roles) (or_nobody (decode nodes.now)) }
 {
     let mut stack: u64 = 0;
-    let mut i = 0;
-    while i < nodes.len {
-        stack = push(nodes.at[i], leaf(nodes.at[i], masks, who, roles), stack);
-        i += 1;
+    for node in nodes {
+        stack = push(*node, leaf(*node, masks, who, roles), stack);
     }
     stack % 2 == 1
 }
@@ -72,16 +66,15 @@ fn worked(nodes: &Nodes, masks: &Masks, who: Option<User>, roles: RoleSet) -> bo
 pub fn in_set(set: &UserTree, masks: &Masks, user: User, roles: RoleSet) -> bool
     ensures { result ≡ in_test masks.now.seniors masks.now.givers (Some user) (roles_of roles) (set_of set.now.nodes) }
 {
-    worked(&set.nodes, masks, Some(user), roles)
+    worked(set.nodes.entries(), masks, Some(user), roles)
 }
 
-// Whether a user with these roles meets the condition.
+// Whether a user with these roles meets the condition, where its nodes are a set's.
 pub fn condition(needs: &Needs, masks: &Masks, roles: RoleSet) -> bool
-    requires { whole_needs needs.now ≡ true }
-    ensures { result ≡ meets_test (down_of masks.now.seniors) (roles_of roles) (condition_of needs.now) }
+    ensures { whole_needs needs.now ≡ true → result ≡ meets_test (down_of masks.now.seniors) (roles_of roles) (condition_of needs.now) }
 {
     match needs {
         Needs::Everybody => true,
-        Needs::Roles(nodes) => worked(nodes, masks, None, roles),
+        Needs::Roles(nodes) => worked(nodes.entries(), masks, None, roles),
     }
 }

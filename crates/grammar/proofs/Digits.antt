@@ -1,32 +1,18 @@
 -- Runs of bytes, and the number that digits write.
-use Rattle.std.proofs.Common.{◌≡◌, ℕ, zero, suc, ◌+◌, ◌-◌, ◌*◌, ◌^◌, ◌<◌, ◌≤◌, Bool, true, false, cond, not, ◌&&◌, ◌||◌, ltb, leb, ◌⊎◌, List, [], ◌∷◌, length, get_or, take, drop, Some, None, Option, sym, refl, ap, ◌∙◌, subst, ⊎_elim, pow-suc, add-one, arith, Bor, lt-ltb, ne_eqb, le-leb, leb-true}
+use Rattle.std.proofs.Common.{◌≡◌, ℕ, zero, suc, ◌+◌, ◌-◌, ◌*◌, ◌^◌, ◌<◌, ◌≤◌, Bool, true, false, cond, not, ◌&&◌, ◌||◌, ltb, leb, eqb, ◌⊎◌, List, [], ◌∷◌, length, get_or, take, drop, slice_get, Some, None, Option, sym, refl, ap, ◌∙◌, subst, ⊎_elim, pow-suc, add-one, arith, Bor, lt-ltb, ne_eqb, le-leb, leb-true}
 use borrow.Author.Tests.{lt-leb}
-use Rattle.std.proofs.lemmas.List.{drop_more, drop_all, length-take-le, get_or-take, length-drop, drop-drop, take_all}
+use Rattle.std.proofs.lemmas.List.{drop_more, length-take-le, length-drop, take_all}
 use Rattle.std.proofs.lemmas.Bool.{cond-true, cond-false, and_parts, and_from, or_left, or_right, not_from_false}
-use Rattle.grammar.specs.Text.{begins, run, is_digit, value, well_formed, number, begins_zero, Read, got, none, passes, Cut, ahead, behind, is_letter, taken, Reads}
+use Rattle.grammar.specs.Text.{begins, run, is_digit, value, well_formed, number, begins_zero, Read, got, none, passes, Cut, ahead, behind, is_letter, taken, Reads, Left, rest}
 use Rattle.grammar.specs.declared.tokens.Part.{Part}
 use Rattle.grammar.specs.declared.tokens.Part.TheVariants.{Word, Number, Sign, End}
 
--- at a place p of the text t
-module _ (t : List ℕ) (p : ℕ) where
-  pub here : (c : ℕ) → p < length t → get_or t p 0 ≡ c → drop p t ≡ c ∷ drop (p + 1) t
-  here c h e = drop_more t p 0 h ∙ ap (λ x. x ∷ drop (p + 1) t) e
-
-  pub not_here : (c : ℕ) → p < length t → (get_or t p 0 ≡ c → ⊥) → begins c (drop p t) ≡ false
-  not_here c h ne = ap (begins c) (drop_more t p 0 h) ∙ ne_eqb (get_or t p 0) c ne
-
-  pub at_end : (c : ℕ) → length t ≤ p → begins c (drop p t) ≡ false
-  at_end c h = ap (begins c) (drop_all p t h)
-
 module _ (p : ℕ → Bool) where
-  pub run_more : (s : List ℕ) (n : ℕ) → n < length s → p (get_or s n 0) ≡ true → run p (drop n s) ≡ suc (run p (drop (n + 1) s))
-  run_more s n h e = ap (run p) (drop_more s n 0 h) ∙ cond-true _ _ _ e
-
-  pub run_stop : (s : List ℕ) (n : ℕ) → n < length s → p (get_or s n 0) ≡ false → run p (drop n s) ≡ 0
-  run_stop s n h e = ap (run p) (drop_more s n 0 h) ∙ cond-false _ _ _ e
-
-  pub run_end : (s : List ℕ) (n : ℕ) → length s ≤ n → run p (drop n s) ≡ 0
-  run_end s n h = ap (run p) (drop_all n s h)
+  -- the run at the front, by the bytes before its end and the one there
+  pub run_is : (s : List ℕ) (n : ℕ) → n ≤ length s → ((k : ℕ) → k < n → true ≡ p (get_or s k 0)) → (n < length s → false ≡ p (get_or s n 0)) → run p s ≡ n
+  run_is [] n le each stops = omega arith
+  run_is (b ∷ bs) zero le each stops = cond-false _ _ _ (sym (stops (omega arith)))
+  run_is (b ∷ bs) (suc n) le each stops = cond-true _ _ _ (sym (each 0 (omega arith))) ∙ ap suc (run_is bs n (omega arith) (λ k l. each (suc k) (omega arith)) (λ l. stops (omega arith)))
 
   run_cases : (b : ℕ) (x : ℕ) (m : ℕ) → x ≤ m → cond (p b) (suc x) 0 ≤ suc m
   run_cases b x m h = elim (p b) as (λ v. cond v (suc x) 0 ≤ suc m) [ true ↦ omega arith | false ↦ omega arith ]
@@ -55,15 +41,8 @@ digit_low b e = leb-true 48 b (and_parts (leb 48 b) (leb b 57) e).0
 pub digit_high : (b : ℕ) → is_digit b ≡ true → b ≤ 57
 digit_high b e = leb-true b 57 (and_parts (leb 48 b) (leb b 57) e).1
 
-pub value_more : (n : ℕ) (s : List ℕ) (k i : ℕ) → k ≤ length s → i < k → value n (drop i (take k s)) ≡ value (n * 10 + (get_or s i 0 - 48)) (drop (i + 1) (take k s))
-value_more n s k i h l =
-    let m : length (take k s) ≡ k = length-take-le k s h in
-    ap (value n) (drop_more (take k s) i 0 (omega arith)) ∙ ap (λ b. value (n * 10 + (b - 48)) (drop (i + 1) (take k s))) (get_or-take k s i 0 l)
-
-pub value_all : (n : ℕ) (s : List ℕ) (k i : ℕ) → k ≤ length s → k ≤ i → value n (drop i (take k s)) ≡ n
-value_all n s k i h l =
-    let m : length (take k s) ≡ k = length-take-le k s h in
-    ap (value n) (drop_all i (take k s) (omega arith))
+pub value_more : (n : ℕ) (s : List ℕ) (i : ℕ) → i < length s → value n (drop i s) ≡ value (n * 10 + (get_or s i 0 - 48)) (drop (i + 1) s)
+value_more n s i l = ap (value n) (drop_more s i 0 l)
 
 pub ten_more : (n b i : ℕ) → n < 10 ^ i → b ≤ 57 → n * 10 + (b - 48) < 10 ^ (i + 1)
 ten_more n b i h d = let e : 10 ^ (i + 1) ≡ 10 ^ i * 10 = pow_more i in omega arith
@@ -82,40 +61,18 @@ number_good s k a b w =
     and_from _ _ (lt-ltb 0 k a) (and_from _ _ (le-leb k 5 b)
     (⊎_elim (λ h. or_left (leb k 1) (not (begins_zero s)) (le-leb k 1 h)) (λ h. or_right (leb k 1) (not (begins_zero s)) (not_from_false _ h)) w))
 
-first_byte : (s : List ℕ) → 0 < length s → (get_or s 0 0 ≡ 48 → ⊥) → begins_zero s ≡ false
-first_byte [] h n = absurd (omega arith)
-first_byte (b ∷ bs) h n = ne_eqb b 48 n
-
-pub no_zero : (s : List ℕ) (k : ℕ) → k ≤ length s → 1 < k → (get_or s 0 0 ≡ 48 → ⊥) → begins_zero s ≡ false
-no_zero s k h l n = first_byte s (omega arith) n
-
-module _ (t : List ℕ) (p : ℕ) where
-  pub passes_here : (f : ℕ → Bool) (v : Bool) → p < length t → f (get_or t p 0) ≡ v → passes f (drop p t) ≡ v
-  passes_here f v h e = ap (passes f) (drop_more t p 0 h) ∙ e
-
-  pub cut_at : (n k : ℕ) → n ≡ k → Cut k (take (p + n - p) (drop p t)) (drop p t) (drop (p + n) t)
-  cut_at n k e = let i : p + n - p ≡ k = omega arith in (ap (λ x. take x (drop p t)) i, sym (drop-drop n p t) ∙ ap (λ x. drop x (drop p t)) e)
-
-  pub ahead_here : p < length t → get_or t p 0 ≡ ahead (drop p t)
-  ahead_here h = sym (ap ahead (drop_more t p 0 h))
-
-  pub ahead_end : length t ≤ p → 0 ≡ ahead (drop p t)
-  ahead_end h = sym (ap ahead (drop_all p t h))
-
-  pub behind_here : p < length t → drop (p + 1) t ≡ behind (drop p t)
-  behind_here h = sym (ap behind (drop_more t p 0 h))
-
-  pub behind_end : length t ≤ p → drop p t ≡ behind (drop p t)
-  behind_end h = drop_all p t h ∙ sym (ap behind (drop_all p t h))
+pub no_zero : (s : List ℕ) (b : ℕ) → slice_get s 0 ≡ Some b → eqb b 48 ≡ false → begins_zero s ≡ false
+no_zero [] b h n = cc h
+no_zero (c ∷ cs) b h n = ap (λ d. eqb d 48) (cc h) ∙ n
 
 -- the sign that stands first
-pub ahead_is : (s : List ℕ) (c : ℕ) → 0 < c → ahead s ≡ c → s ≡ c ∷ behind s
-ahead_is [] c h e = absurd (omega arith)
-ahead_is (b ∷ bs) c h e = ap (λ x. x ∷ bs) e
+pub ahead_is : (s : List ℕ) (c : ℕ) → ahead s ≡ Some c → s ≡ c ∷ behind s
+ahead_is [] c h = cc
+ahead_is (b ∷ bs) c h = ap (λ x. x ∷ bs) (cc h)
 
-pub ahead_not : (s : List ℕ) (c : ℕ) → (ahead s ≡ c → ⊥) → begins c s ≡ false
+pub ahead_not : (s : List ℕ) (c : ℕ) → (ahead s ≡ Some c → ⊥) → begins c s ≡ false
 ahead_not [] c h = refl
-ahead_not (b ∷ bs) c h = ne_eqb b c h
+ahead_not (b ∷ bs) c h = ne_eqb b c (λ e. h (ap Some e))
 
 -- ---- a number is read from its digits alone
 
@@ -210,3 +167,24 @@ end_none p s after e h = ap number (subst (λ q. Reads q s after) e h).0 ∙ num
 -- and a number's token holds its digits
 pub number_cut : (p : Part) (w : Bor (List ℕ)) (s after : List ℕ) → p ≡ Number w → Reads p s after → Cut (run is_digit s) w.now s after
 number_cut p w s after e h = (subst (λ q. Reads q s after) e h).1
+
+-- ---- what a token holds
+
+first_passes : (f : ℕ → Bool) (s : List ℕ) (b : ℕ) (v : Bool) → slice_get s 0 ≡ Some b → f b ≡ v → passes f s ≡ v
+first_passes f [] b v h e = cc h
+first_passes f (c ∷ cs) b v h e = ap f (cc h) ∙ e
+
+-- the parts by the byte that stands first
+module _ (s : List ℕ) (b : ℕ) (h : slice_get s 0 ≡ Some b) (q : Part) (r r' : Left) (e : r ≡ r') (p : Bor (List ℕ)) (n : ℕ) (c : Cut n p.now s (rest r')) where
+  pub reads_word : q ≡ Word p → is_letter b ≡ true → run is_letter s ≡ n → Reads q s (rest r)
+  reads_word w l k = subst (λ t. Reads t s (rest r)) (sym w) (first_passes is_letter s b true h l, rw (k, e) c)
+
+  pub reads_number : q ≡ Number p → is_digit b ≡ true → run is_digit s ≡ n → Reads q s (rest r)
+  reads_number w d k = subst (λ t. Reads t s (rest r)) (sym w) (first_passes is_digit s b true h d, rw (k, e) c)
+
+  pub reads_sign : q ≡ Sign p → is_letter b ≡ false → is_digit b ≡ false → 1 ≡ n → Reads q s (rest r)
+  reads_sign w l d k = subst (λ t. Reads t s (rest r)) (sym w) (first_passes is_letter s b false h l, first_passes is_digit s b false h d, rw (k, e) c)
+
+pub reads_end : (s : List ℕ) (q : Part) (r r' : Left) → r ≡ r' → q ≡ End → slice_get s 0 ≡ None → rest r' ≡ s → Reads q s (rest r)
+reads_end [] q r r' e w h k = subst (λ t. Reads t [] (rest r)) (sym w) (refl, rw e k)
+reads_end (b ∷ bs) q r r' e w h k = cc h

@@ -66,50 +66,58 @@ UsersClaim f = (d : ℕ) (m : Size) (p : Phrase users) (s : List ℕ) (e : Size)
 
 -- the steps by state, with what comes after
 abbrev After : ℕ → Mode → ℕ → Size → List ℕ → Size → List ℕ → Type 0
-After f k d m s e x = (g : ℕ) × (f ≡ suc g) × (((q : State) × (s1 : List ℕ) × (Move k d m s q s1) × (runs g q s1 ≡ ok e x)) ⊎ ((step_at k d m s ≡ stop) × (m ≡ e) × (s ≡ x)))
+After f k d m s e x = (g : ℕ) × (f ≡ suc g) × (((q : State) × (s1 : List ℕ) × (Move k d m s q s1) × (runs g q s1 ≡ ok e x)) ⊎ ((step_at k d m s ≡ stop x) × (m ≡ e)))
 
 after : (f : ℕ) (k : Mode) (d : ℕ) (m : Size) (s : List ℕ) (e : Size) (x : List ℕ) → runs f (at k d m) s ≡ ok e x → After f k d m s e x
 unfolding step
 after f k d m s e x h = let t = first_turn f (at k d m) s x e h in (t.0, t.1, split t.0 t.2)
   where
-    split : (g : ℕ) → ((p : State) × (s1 : List ℕ) × (step (at k d m) s ≡ go p s1) × (runs g p s1 ≡ ok e x)) ⊎ ((step (at k d m) s ≡ stop) × (m ≡ e) × (s ≡ x)) → ((q : State) × (s1 : List ℕ) × (Move k d m s q s1) × (runs g q s1 ≡ ok e x)) ⊎ ((step_at k d m s ≡ stop) × (m ≡ e) × (s ≡ x))
+    split : (g : ℕ) → ((p : State) × (s1 : List ℕ) × (step (at k d m) s ≡ go p s1) × (runs g p s1 ≡ ok e x)) ⊎ ((step (at k d m) s ≡ stop x) × (m ≡ e)) → ((q : State) × (s1 : List ℕ) × (Move k d m s q s1) × (runs g q s1 ≡ ok e x)) ⊎ ((step_at k d m s ≡ stop x) × (m ≡ e))
     split g (inl w) = inl (w.0, w.1, moves k d m s w.0 w.1 w.2, w.3)
     split g (inr w) = inr w
 
 -- ---- only behind a set can the scanning stop
 
-pick_never : (c : ℕ) (s : List ℕ) (f : List ℕ → Next) (o : Next) → ((y : List ℕ) → f y ≡ stop → ⊥) → (o ≡ stop → ⊥) → pick c s f o ≡ stop → ⊥
-pick_never c s f o a b e = split (pick_ways c s f o stop e)
+pick_never : {x : List ℕ} (c : ℕ) (s : List ℕ) (f : List ℕ → Next) (o : Next) → ((y : List ℕ) → f y ≡ stop x → ⊥) → (o ≡ stop x → ⊥) → pick c s f o ≡ stop x → ⊥
+pick_never {x} c s f o a b e = split (pick_ways c s f o _ e)
   where
-    split : Way c s f o stop → ⊥
+    split : Way c s f o (stop x) → ⊥
     split (inl w) = a w.0 w.2
     split (inr w) = b w.1
 
-leaf_never : (k : Mode) (mk : ℕ → UserSet) (l d : ℕ) (m : Size) (r : Read) → leaf k mk l d m r ≡ stop → ⊥
+leaf_never : {x : List ℕ} (k : Mode) (mk : ℕ → UserSet) (l d : ℕ) (m : Size) (r : Read) → leaf k mk l d m r ≡ stop x → ⊥
 leaf_never k mk l d m (got n s) e = let z : ◌≡◌ {A = ℕ} 0 1 = cc in omega arith
 leaf_never k mk l d m none e = let z : ◌≡◌ {A = ℕ} 0 1 = cc in omega arith
 
-go_never : (q : State) (s : List ℕ) → go q s ≡ stop → ⊥
+go_never : {x : List ℕ} (q : State) (s : List ℕ) → go q s ≡ stop x → ⊥
 go_never q s e = let z : ◌≡◌ {A = ℕ} 0 1 = cc in omega arith
 
-bad_never : bad ≡ stop → ⊥
+bad_never : {x : List ℕ} → bad ≡ stop x → ⊥
 bad_never e = let z : ◌≡◌ {A = ℕ} 0 1 = cc in omega arith
 
-operand_never : (d : ℕ) (m : Size) (s : List ℕ) → step_at Operand d m s ≡ stop → ⊥
+operand_never : {x : List ℕ} (d : ℕ) (m : Size) (s : List ℕ) → step_at Operand d m s ≡ stop x → ⊥
 operand_never d m s = pick_never 40 s _ _ (λ y. go_never _ y) (pick_never 114 s _ _ (λ y. leaf_never Sign members 0 d m (number y)) (pick_never 112 s _ _ (λ y. leaf_never Sign holders 0 d m (number y)) (pick_never 123 s _ _ (λ y. pick_never 125 y _ _ (λ z. go_never _ z) (go_never _ y)) bad_never)))
 
-user_never : (d : ℕ) (m : Size) (s : List ℕ) → step_at User d m s ≡ stop → ⊥
+user_never : {x : List ℕ} (d : ℕ) (m : Size) (s : List ℕ) → step_at User d m s ≡ stop x → ⊥
 user_never d m s = pick_never 117 s _ _ (λ y. leaf_never Comma only 0 d m (number y)) bad_never
 
-another_never : (d : ℕ) (m : Size) (s : List ℕ) → step_at Another d m s ≡ stop → ⊥
+another_never : {x : List ℕ} (d : ℕ) (m : Size) (s : List ℕ) → step_at Another d m s ≡ stop x → ⊥
 another_never d m s = pick_never 117 s _ _ (λ y. leaf_never Comma only 1 d m (number y)) bad_never
 
-comma_never : (d : ℕ) (m : Size) (s : List ℕ) → step_at Comma d m s ≡ stop → ⊥
+comma_never : {x : List ℕ} (d : ℕ) (m : Size) (s : List ℕ) → step_at Comma d m s ≡ stop x → ⊥
 comma_never d m s = pick_never 44 s _ _ (λ y. go_never _ y) (pick_never 125 s _ _ (λ y. go_never _ y) bad_never)
 
-sign_stop : (d : ℕ) (m : Size) (s : List ℕ) → step_at Sign d m s ≡ stop → d ≡ 0
-sign_stop zero m s e = refl
-sign_stop (suc d) m s e = absurd (pick_never 124 s _ _ (λ y. go_never _ y) (pick_never 38 s _ _ (λ y. go_never _ y) (pick_never 41 s _ _ (λ y. go_never _ y) bad_never)) e)
+sign_stop : (d : ℕ) (m : Size) (s x : List ℕ) → step_at Sign d m s ≡ stop x → (d ≡ 0) × (s ≡ x)
+sign_stop zero m s x e = first (pick_ways 124 s _ _ _ e)
+  where
+    second : Way 38 s (λ s1. go (at Operand 0 m) s1) (stop s) (stop x) → (zero ≡ zero) × (s ≡ x)
+    second (inl w) = absurd (go_never _ _ w.2)
+    second (inr w) = (refl, cc w.1)
+
+    first : Way 124 s (λ s1. go (at Operand 0 m) s1) (pick 38 s (λ s1. go (at Operand 0 m) s1) (stop s)) (stop x) → (zero ≡ zero) × (s ≡ x)
+    first (inl w) = absurd (go_never _ _ w.2)
+    first (inr w) = second (pick_ways 38 s _ _ _ w.1)
+sign_stop (suc d) m s x e = absurd (pick_never 124 s _ _ (λ y. go_never _ y) (pick_never 38 s _ _ (λ y. go_never _ y) (pick_never 41 s _ _ (λ y. go_never _ y) bad_never)) e)
 
 -- ---- users in braces
 
@@ -240,7 +248,7 @@ set_step f IH d m p s e x h k = next (after f Sign d (grow d m (size_of p)) s e 
     next : After f Sign d (grow d m (size_of p)) s e x → Set f d m p s e x
     next a = elim a.2 [
       | inl w ↦ set_move f a.0 IH d m p s w.0 w.1 e x (omega (arith, a.1)) h w.2 w.3
-      | inr w ↦ (p, s, refl, h, inl (sign_stop d (grow d m (size_of p)) s w.0, w.1, w.2))
+      | inr w ↦ let z = sign_stop d (grow d m (size_of p)) s x w.0 in (p, s, refl, h, inl (z.0, w.1, z.1))
     ]
 
 claims : (f : ℕ) → Claims f
@@ -268,7 +276,7 @@ unfolding step
 found s x p w n =
     ap (scanned (at Operand 0 empty)) w.bytes
     ∙ complete p x 0 empty w.short n.no_digit
-    ∙ stops (at Sign 0 (grow 0 empty (size_of p))) x (pick_not 124 x _ _ n.no_or ∙ pick_not 38 x _ _ n.no_and)
+    ∙ stops (at Sign 0 (grow 0 empty (size_of p))) x x (pick_not 124 x _ _ n.no_or ∙ pick_not 38 x _ _ n.no_and)
     ∙ ap (λ z. ok z x) (grow_none (size_of p))
 
 -- what a call tells that answers as the scanning does

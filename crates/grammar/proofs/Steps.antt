@@ -3,6 +3,7 @@ use Rattle.std.proofs.Common.{◌≡◌, ℕ, zero, suc, Bool, true, false, cond
 use Rattle.std.proofs.lemmas.Bool.{cond-true, cond-false}
 use Rattle.grammar.specs.declared.sizes.Size.{Size}
 use Rattle.grammar.specs.declared.sizes.State.{State}
+use Rattle.grammar.specs.declared.sizes.Leaf.{Leaf}
 use Rattle.grammar.specs.declared.sizes.Mode.{Mode}
 use Rattle.grammar.specs.declared.sizes.Mode.TheVariants.{Operand, Sign, User, Comma, Another}
 use Rattle.grammar.specs.Text.{begins, Read, got, none, number}
@@ -112,25 +113,23 @@ moves Another d m s q x e = first (pick_ways 117 s _ _ _ e)
     first (inl w) = let l = leaf_goes Comma only 1 d m (number w.0) q x w.2 in moved _ _ _ _ _ _ _ _ _ w.1 l.2 refl (another l.0 x l.1)
     first (inr w) = never q x w.1
 
--- the code's operand, by the limit of its number, is the tree's
-pub leaf_role : (d : ℕ) (m : Size) (r : Read) → leaf Sign members 0 d m r ≡ leaf_by Sign 64 false true 0 d m r
+-- the operands that the code counts in, by the limit of their numbers, are the tree's
+abbrev pub leaf_of : Mode → ℕ → ℕ → Bool → Bool → Leaf
+leaf_of k limit l f a = record { then = k; limit = limit; size = record { operands = 1; levels = l; fits = true; fixed = f; roles = a } }
+
+pub leaf_role : (d : ℕ) (m : Size) (r : Read) → leaf Sign members 0 d m r ≡ leaf_by (leaf_of Sign 64 0 false true) d m r
 leaf_role d m (got n s) = refl
 leaf_role d m none = refl
 
-pub leaf_permission : (d : ℕ) (m : Size) (r : Read) → leaf Sign holders 0 d m r ≡ leaf_by Sign 32 false false 0 d m r
+pub leaf_permission : (d : ℕ) (m : Size) (r : Read) → leaf Sign holders 0 d m r ≡ leaf_by (leaf_of Sign 32 0 false false) d m r
 leaf_permission d m (got n s) = refl
 leaf_permission d m none = refl
 
-pub leaf_user : (l d : ℕ) (m : Size) (r : Read) → leaf Comma only l d m r ≡ leaf_by Comma 65536 true false l d m r
+leaf_user : (l d : ℕ) (m : Size) (r : Read) → leaf Comma only l d m r ≡ leaf_by (leaf_of Comma 65536 l true false) d m r
 leaf_user l d m (got n s) = refl
 leaf_user l d m none = refl
 
-users_step : (l d : ℕ) (m : Size) (s : List ℕ) → pick 117 s (λ s1. leaf Comma only l d m (number s1)) bad ≡ user_step l d m s
+-- a user behind a brace and one behind a comma differ in their levels alone
+pub users_step : (l d : ℕ) (m : Size) (s : List ℕ) → pick 117 s (λ s1. leaf Comma only l d m (number s1)) bad ≡ user_step (leaf_of Comma 65536 l true false) d m s
 users_step l d m [] = refl
 users_step l d m (b ∷ bs) = ap (λ y. cond (eqb b 117) y bad) (leaf_user l d m (number bs))
-
-pub user_step_lem : (d : ℕ) (m : Size) (s : List ℕ) → step_at User d m s ≡ user_step 0 d m s
-user_step_lem d m s = users_step 0 d m s
-
-pub another_step : (d : ℕ) (m : Size) (s : List ℕ) → step_at Another d m s ≡ user_step 1 d m s
-another_step d m s = users_step 1 d m s

@@ -1,29 +1,25 @@
 -- A word is taken exactly where it stands.
-use Rattle.std.proofs.Common.{◌≡◌, ℕ, ◌+◌, ◌<◌, ◌≤◌, true, false, List, [], ◌∷◌, ◌++◌, length, get_or, take, drop, sym, refl, ap, ◌∙◌, append_assoc, arith, eq-eqb}
-use Rattle.std.proofs.lemmas.List.{append_cancel_left, take-append-drop, drop_more, take_more, take_all}
-use Rattle.grammar.specs.Text.{begins, Takes}
+use Rattle.std.proofs.Common.{◌≡◌, ℕ, Bool, true, false, List, [], ◌∷◌, ◌++◌, eqb, length, drop, sym, refl, ap, ◌∙◌, true≢false, ne_eqb, arith}
+use Rattle.std.proofs.lemmas.Bool.Decides.{Decides-eqb}
+use Rattle.std.specs.List.{starts_with}
+use Rattle.std.proofs.lemmas.List.{append_cancel_left}
+use Rattle.std.proofs.lemmas.Slice.Eq.{starts_is}
+use Rattle.grammar.specs.Text.{Takes, is_nil}
 
-pub word_more : (w s x y : List ℕ) (i : ℕ) → i < length w → s ≡ take i w ++ x → x ≡ get_or w i 0 ∷ y → s ≡ take (i + 1) w ++ y
-word_more w s x y i l e f =
-    e ∙ ap (λ z. take i w ++ z) f ∙ sym (append_assoc (take i w) (get_or w i 0 ∷ []) y) ∙ ap (λ z. z ++ y) (sym (take_more w i 0 l))
+module _ (w s : List ℕ) (r : Bool) (m : r ≡ starts_with eqb s w) where
+  pub word_taken : (x : List ℕ) → r ≡ true → x ≡ drop (length w) s → Takes w s r x
+  word_taken x t e =
+      let a : s ≡ w ++ x = (starts_is Decides-eqb s w r m).0 t ∙ ap (λ l. w ++ l) (sym e) in
+      record { found = λ y h. (t, append_cancel_left w x y (sym a ∙ h)); real = λ u. a; kept = λ f. absurd (true≢false (sym t ∙ f)) }
 
-pub word_not : (w s x : List ℕ) (i : ℕ) → i < length w → s ≡ take i w ++ x → begins (get_or w i 0) x ≡ false → Takes w s false s
-word_not w s x i l e n = record {
-  found = λ y h.
-      let a : take i w ++ (drop i w ++ y) ≡ w ++ y = sym (append_assoc (take i w) (drop i w) y) ∙ ap (λ z. z ++ y) (take-append-drop i w) in
-      let b : x ≡ drop i w ++ y = append_cancel_left (take i w) x (drop i w ++ y) (sym e ∙ h ∙ sym a) in
-      let d : x ≡ get_or w i 0 ∷ (drop (i + 1) w ++ y) = b ∙ ap (λ z. z ++ y) (drop_more w i 0 l) in
-      let f : true ≡ false = sym (eq-eqb (get_or w i 0) (get_or w i 0) refl) ∙ sym (ap (begins (get_or w i 0)) d) ∙ n in
-      let z : ◌≡◌ {A = ℕ} 0 1 = cc in absurd (omega arith);
-  real = λ h. let z : ◌≡◌ {A = ℕ} 0 1 = cc in absurd (omega arith);
-  kept = λ h. refl;
-}
+  pub word_left : r ≡ false → Takes w s r s
+  word_left f = record {
+    found = λ y h. absurd (true≢false (sym ((starts_is Decides-eqb s w r m).1 y h) ∙ f));
+    real = λ t. absurd (true≢false (sym t ∙ f));
+    kept = λ g. refl;
+  }
 
-pub word_all : (w s x : List ℕ) (i : ℕ) → length w ≤ i → s ≡ take i w ++ x → Takes w s true x
-word_all w s x i l e =
-    let a : s ≡ w ++ x = e ∙ ap (λ z. z ++ x) (take_all i w l) in
-    record {
-      found = λ y h. (refl, append_cancel_left w x y (sym a ∙ h));
-      real = λ h. a;
-      kept = λ h. let z : ◌≡◌ {A = ℕ} 0 1 = cc in absurd (omega arith);
-    }
+-- nothing is left where no byte is
+pub none_left : (s : List ℕ) → eqb (length s) 0 ≡ is_nil s
+none_left [] = refl
+none_left (b ∷ bs) = ne_eqb (length (b ∷ bs)) 0 (λ e. omega arith)

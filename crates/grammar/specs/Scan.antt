@@ -1,5 +1,5 @@
 -- How a set is scanned, step by step, and what the scanning tells.
-use Rattle.std.specs.Prelude.{◌≡◌, ℕ, zero, suc, ◌+◌, ◌≤◌, max, Bool, true, false, cond, ◌&&◌, List, [], ◌∷◌, length, Some, None, Option, ◌==◌, nat_lt}
+use Rattle.std.specs.Prelude.{◌≡◌, ℕ, zero, suc, ◌+◌, ◌^◌, ◌<◌, max, true, cond, ◌&&◌, List, [], ◌∷◌, length, Some, None, Option, ◌==◌, nat_lt}
 use Rattle.policy.specs.Sets.{UserSet, members, holders, only, nobody}
 use Rattle.grammar.specs.Text.{Read, got, none, number}
 use Rattle.grammar.specs.Phrase.{Kind, set, Phrase, meaning, levels, operands, in_range, static, roles_alone, Written, Ends}
@@ -7,8 +7,7 @@ use Rattle.grammar.specs.declared.sizes.Size.{Size}
 use Rattle.grammar.specs.declared.sizes.State.{State}
 use Rattle.grammar.specs.declared.sizes.Mode.{Mode}
 use Rattle.grammar.specs.declared.sizes.Mode.TheVariants.{Operand, Sign, User, Comma, Another}
-use Rattle.grammar.specs.declared.sizes.Step.{Step}
-use Rattle.grammar.specs.declared.sizes.Step.TheVariants.{Go, Stop, Bad}
+use Rattle.grammar.specs.declared.sizes.Leaf.{Leaf}
 
 -- the size of a tree that is written with so many levels
 abbrev pub sized : UserSet → ℕ → Size
@@ -27,13 +26,13 @@ empty = record { operands = 0; levels = 0; fits = true; fixed = true; roles = tr
 
 pub data Next : Type 0 where
   go : State → List ℕ → Next
-  stop : Next
+  stop : List ℕ → Next
   bad : Next
 
-abbrev pub told : Step → List ℕ → Next
-told (Go q) s = go q s
-told Stop s = stop
-told Bad s = bad
+abbrev pub told : Option (Option State) → List ℕ → Next
+told (Some (Some q)) s = go q s
+told (Some None) s = stop s
+told None s = bad
 
 abbrev pub at : Mode → ℕ → Size → State
 at k d m = record { mode = k; depth = d; size = m }
@@ -47,7 +46,7 @@ leaf k mk l d m (got n s) = go (at k d (grow d m (sized (mk n) l))) s
 leaf k mk l d m none = bad
 
 abbrev pub close : ℕ → Size → List ℕ → Next
-close zero m s = stop
+close zero m s = stop s
 close (suc d) m s = pick 41 s (λ s1. go (at Sign d m) s1) bad
 
 -- one step of the scanning
@@ -72,7 +71,7 @@ pub data Out : Type 0 where
 
 abbrev pub onward : Next → Size → List ℕ → (State → List ℕ → Out) → Out
 onward (go q s1) m s f = f q s1
-onward stop m s f = ok m s
+onward (stop s1) m s f = ok m s1
 onward bad m s f = no
 
 abbrev pub runs : ℕ → State → List ℕ → Out
@@ -92,30 +91,15 @@ pub record Scanned (s : List ℕ) (r : Option Size) (after : List ℕ) : Type 0 
   pub found : (p : Phrase set) (x : List ℕ) → Written s p x → Ends x → (r ≡ Some (size_of p)) × (after ≡ x)
   pub real : (m : Size) → r ≡ Some m → (p : Phrase set) × (Written s p after) × (m ≡ size_of p)
 
--- a step keeps each count within the bytes that are read
-pub record Room (n : ℕ) (q : State) (s : List ℕ) : Type 0 where
-  pub deep : q.depth + length s ≤ n
-  pub many : q.size.operands + length s ≤ n
+-- each count has room for the bytes that are left
+pub record Room (q : State) (s : List ℕ) : Type 0 where
+  pub deep : q.depth + length s < 2 ^ 64
+  pub many : q.size.operands + length s < 2 ^ 64
 
-abbrev pub RoomOf : ℕ → Step → List ℕ → Type 0
-RoomOf n (Go q) s = Room n q s
-RoomOf n Stop s = Unit {0}
-RoomOf n Bad s = Unit {0}
+-- an operand by the limit of its number and its size
+abbrev pub leaf_by : Leaf → ℕ → Size → Read → Next
+leaf_by f d m (got n s) = go (at f.then d (grow d m (record { operands = f.size.operands; levels = f.size.levels; fits = nat_lt n f.limit; fixed = f.size.fixed; roles = f.size.roles }))) s
+leaf_by f d m none = bad
 
--- a step that stops has read nothing
-abbrev pub Kept : Step → List ℕ → List ℕ → Type 0
-Kept (Go q) s x = Unit {0}
-Kept Stop s x = x ≡ s
-Kept Bad s x = Unit {0}
-
--- the size with one operand more, at that depth
-abbrev pub counted : Size → ℕ → Bool → Bool → Bool → Size
-counted m deep b f a = record { operands = m.operands + 1; levels = max m.levels deep; fits = m.fits && b; fixed = m.fixed && f; roles = m.roles && a }
-
--- an operand by the limit of its number, whether it is a user, and whether it is a role
-abbrev pub leaf_by : Mode → ℕ → Bool → Bool → ℕ → ℕ → Size → Read → Next
-leaf_by k limit f a l d m (got n s) = go (at k d (counted m (d + l) (nat_lt n limit) f a)) s
-leaf_by k limit f a l d m none = bad
-
-abbrev pub user_step : ℕ → ℕ → Size → List ℕ → Next
-user_step l d m s = pick 117 s (λ s1. leaf_by Comma 65536 true false l d m (number s1)) bad
+abbrev pub user_step : Leaf → ℕ → Size → List ℕ → Next
+user_step f d m s = pick 117 s (λ s1. leaf_by f d m (number s1)) bad

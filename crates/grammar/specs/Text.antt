@@ -1,17 +1,26 @@
 -- What is left to read, and what a reader takes from it.
 use Rattle.std.specs.Prelude.{◌≡◌, ℕ, suc, ◌+◌, ◌-◌, ◌*◌, Bool, true, false, cond, not, ◌&&◌, ◌||◌, List, [], ◌∷◌, ◌++◌, take, drop, Some, None, Option, ◌==◌, nat_le, nat_lt}
-use Rattle.grammar.specs.declared.reader.Reader.{Reader}
 use Rattle.grammar.specs.declared.tokens.Part.{Part}
 use Rattle.grammar.specs.declared.tokens.Part.TheVariants.{Word, Number, Sign, End}
 
--- what is left
-abbrev pub rest : Reader → List ℕ
-rest r = drop r.place r.text.now
+-- what a clause sees of a reader: the bytes that are left, and the number of the line
+pub record Left : Type 0 where
+  pub bytes : List ℕ
+  pub line : ℕ
 
--- the byte that stands first, or 0, and what follows it
-abbrev pub ahead : List ℕ → ℕ
-ahead [] = 0
-ahead (b ∷ bs) = b
+-- what is left
+abbrev pub rest : Left → List ℕ
+rest r = r.bytes
+
+-- whether nothing is left
+abbrev pub is_nil : List ℕ → Bool
+is_nil [] = true
+is_nil (b ∷ bs) = false
+
+-- the byte that stands first, if there is one, and what follows it
+abbrev pub ahead : List ℕ → Option ℕ
+ahead [] = None
+ahead (b ∷ bs) = Some b
 
 abbrev pub behind : List ℕ → List ℕ
 behind [] = []

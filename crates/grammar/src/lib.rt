@@ -8,7 +8,7 @@ mod tokens;
 
 pub use grounds::Ground;
 pub use reader::Reader;
-pub use sizes::{Mode, Size, State, Step};
+pub use sizes::Size;
 pub use tokens::{Part, Token};
 
 pub mod read;

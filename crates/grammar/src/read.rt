@@ -1,5 +1,5 @@
 // What a reader takes from its text: tokens, numbers, signs and words.
-ghost use Rattle.std.specs.Prelude.{◌≡◌, ℕ, ◌+◌, ◌-◌, ◌*◌, ◌<◌, ◌≤◌, true, false, List, [], ◌∷◌, length};
+ghost use Rattle.std.specs.Prelude.{◌≡◌, ℕ, ◌≤◌, Bool, true, false, [], ◌∷◌, length, ◌<◌, slice_index};
 ghost use Rattle.grammar.specs.Text.{rest, ahead, behind, begins, is_digit, is_letter, run, number as number_of, taken, Reads, Takes};
 
 use crate::reader::Reader;
@@ -10,56 +10,37 @@ const DIGITS: usize = 5;
 fn digit(b: u8) -> bool
     ensures { result ≡ is_digit b }
 {
-    b >= b'0' && b <= b'9'
+    matches!(b, b'0'..=b'9')
 }
 
 fn letter(b: u8) -> bool
     ensures { result ≡ is_letter b }
 {
-    b >= b'a' && b <= b'z'
+    matches!(b, b'a'..=b'z')
 }
 
-// How many digits stand at the front.
-fn digits(s: &[u8]) -> usize
-    ensures whole { result ≡ run is_digit s.now }
+// How many bytes at the front pass the test.
+pub fn run_length<F: Fn(u8) -> bool>(s: &[u8], passes: F) -> usize
+    requires { F.IsAlwaysCallable passes }
     ensures within { result ≤ length s.now }
+    ensures each { (k : ℕ) → k < result → F.post passes (slice_index s.now k) true }
+    ensures stops { result < length s.now → F.post passes (slice_index s.now result) false }
 {
-    let mut n = 0;
-    while n < s.len() && digit(s[n]) {
-        n += 1;
-    }
-    n
-}
-
-// How many small letters stand at the front.
-fn letters(s: &[u8]) -> usize
-    ensures whole { result ≡ run is_letter s.now }
-    ensures within { result ≤ length s.now }
-{
-    let mut n = 0;
-    while n < s.len() && letter(s[n]) {
-        n += 1;
-    }
-    n
+    s.iter().position(|b| !passes(*b)).unwrap_or(s.len())
 }
 
 // The number that digits alone write: 1 to 5 of them, and no leading zero but 0 itself.
-fn value_of(s: &[u8]) -> Option<u32>
-    requires { length s.now ≡ run is_digit s.now }
-    ensures { number_of s.now ≡ taken result [] }
+fn value_of(digits: &[u8]) -> Option<u32>
+    requires { length digits.now ≡ run is_digit digits.now }
+    ensures { number_of digits.now ≡ taken result [] }
 {
-    let count = s.len();
-    if count == 0 || count > DIGITS {
-        return None;
-    }
-    if count > 1 && s[0] == b'0' {
+    let first = digits.first()?;
+    if digits.len() > DIGITS || (digits.len() > 1 && *first == b'0') {
         return None;
     }
     let mut n: u32 = 0;
-    let mut i = 0;
-    while i < count {
-        n = n * 10 + (s[i] - b'0') as u32;
-        i += 1;
+    for b in digits {
+        n = n * 10 + (b - b'0') as u32;
     }
     Some(n)
 }
@@ -67,104 +48,67 @@ fn value_of(s: &[u8]) -> Option<u32>
 impl<'a> Reader<'a> {
     // The word, number or sign that stands next, as a part of the text.
     pub fn token(&mut self) -> Token<'a>
-        ensures text { self.new.text.now ≡ self.old.text.now }
         ensures read { Reads result.part (rest self.old) (rest self.new) }
         ensures line { (result.line ≡ self.old.line) × (self.new.line ≡ self.old.line) }
     {
-        let line = self.line;
-        if self.place == self.text.len() {
-            return Token {
-                part: Part::End,
-                line,
-            };
-        }
-        let start = self.place;
-        let b = self.text[start];
-        if letter(b) {
-            let n = letters(&self.text[start..]);
-            self.place = start + n;
-            Token {
-                part: Part::Word(&self.text[start..start + n]),
-                line,
-            }
-        } else if digit(b) {
-            let n = digits(&self.text[start..]);
-            self.place = start + n;
-            Token {
-                part: Part::Number(&self.text[start..start + n]),
-                line,
-            }
-        } else {
-            self.place = start + 1;
-            Token {
-                part: Part::Sign(&self.text[start..start + 1]),
-                line,
-            }
-        }
+        let line = self.line();
+        let left = self.rest();
+        let part = match left.first() {
+            Some(b) if letter(*b) => Part::Word(self.cut(run_length(left, letter))),
+            Some(b) if digit(*b) => Part::Number(self.cut(run_length(left, digit))),
+            Some(_) => Part::Sign(self.cut(1)),
+            None => Part::End,
+        };
+        Token { part, line }
     }
 
     // Takes a number if one stands next.
     pub fn number(&mut self) -> Option<u32>
-        ensures text { self.new.text.now ≡ self.old.text.now }
         ensures read { number_of (rest self.old) ≡ taken result (rest self.new) }
         ensures less { length (rest self.new) ≤ length (rest self.old) }
     {
         match self.token().part {
             Part::Number(digits) => value_of(digits),
-            Part::Word(_) => None,
-            Part::Sign(_) => None,
+            Part::Word(_) | Part::Sign(_) => None,
             Part::End => None,
         }
     }
 
-    // The sign that stands next, or code 0 at the end.
-    pub fn sign(&self) -> char
+    // The sign that stands next, if the text goes on.
+    pub fn sign(&self) -> Option<char>
         ensures { result ≡ ahead (rest self.now) }
     {
-        if self.place < self.text.len() {
-            self.text[self.place] as char
-        } else {
-            '\0'
-        }
+        self.rest().first().map(|b| *b as char)
     }
 
     // Goes over one byte, if there is one.
     pub fn skip(&mut self)
-        ensures text { self.new.text.now ≡ self.old.text.now }
         ensures read { rest self.new ≡ behind (rest self.old) }
     {
-        if self.place < self.text.len() {
-            self.place = self.place + 1;
+        if !self.is_at_end() {
+            self.cut(1);
         }
     }
 
     // Takes the sign if it stands next.
     pub fn take(&mut self, sign: u8) -> bool
-        ensures text { self.new.text.now ≡ self.old.text.now }
         ensures read { elim result [ true ↦ rest self.old ≡ sign ∷ rest self.new | false ↦ (begins sign (rest self.old) ≡ false) × (rest self.new ≡ rest self.old) ] }
     {
-        if self.place < self.text.len() && self.text[self.place] == sign {
-            self.place += 1;
-            true
-        } else {
-            false
+        let found = self.rest().first().is_some_and(|b| *b == sign);
+        if found {
+            self.skip();
         }
+        found
     }
 
     // Takes these bytes if they stand next.
     pub fn takes(&mut self, word: &[u8]) -> bool
-        ensures text { self.new.text.now ≡ self.old.text.now }
         ensures read { Takes word.now (rest self.old) result (rest self.new) }
     {
-        let start = self.place;
-        let mut i = 0;
-        while i < word.len() {
-            if !self.take(word[i]) {
-                self.place = start;
-                return false;
-            }
-            i += 1;
+        let found = self.rest().starts_with(word);
+        if found {
+            self.cut(word.len());
         }
-        true
+        found
     }
 }

@@ -1,211 +1,197 @@
-ghost use Rattle.std.specs.Prelude.{◌≡◌, ℕ, ◌+◌, ◌-◌, ◌*◌, ◌<◌, ◌≤◌, max, true, false, ◌&&◌, List, ◌∷◌, length};
+ghost use Rattle.std.specs.Prelude.{◌≡◌, ◌+◌, ◌^◌, ◌<◌, ◌≤◌, length};
 ghost use Rattle.grammar.specs.Text.{rest, number as number_of};
-ghost use Rattle.grammar.specs.Scan.{leaf_by, counted as counted_in, step_at, user_step, step as step_of, told, Room, RoomOf, Kept, Scanned};
+ghost use Rattle.grammar.specs.Scan.{leaf_by, step_at, user_step, step as step_of, told, Room, Scanned};
 ghost use Rattle.grammar.specs.declared.sizes.Mode.TheVariants.{Operand, Sign, Comma};
 
 use crate::reader::Reader;
-use crate::sizes::{Mode, Size, State, Step};
+use crate::sizes::{Leaf, Mode, Size, State};
+use policy::{PERMISSIONS, ROLES, USERS};
 
-const ROLES: u32 = 64;
+const ROLE: Leaf = Leaf {
+    then: Mode::Sign,
+    limit: ROLES as u32,
+    size: Size {
+        operands: 1,
+        levels: 0,
+        fits: true,
+        fixed: false,
+        roles: true,
+    },
+};
 
-const PERMISSIONS: u32 = 32;
+const PERMISSION: Leaf = Leaf {
+    then: Mode::Sign,
+    limit: PERMISSIONS as u32,
+    size: Size {
+        operands: 1,
+        levels: 0,
+        fits: true,
+        fixed: false,
+        roles: false,
+    },
+};
 
-const USERS: u32 = 65536;
+const NOBODY: Size = Size {
+    operands: 1,
+    levels: 0,
+    fits: true,
+    fixed: true,
+    roles: false,
+};
 
-// Counts in one operand.
-fn counted(size: Size, deep: usize, fits: bool, fixed: bool, roles: bool) -> Size
-    requires { size.operands < 18446744073709551615 }
-    ensures { result ≡ counted_in size deep fits fixed roles }
+const USER: Leaf = Leaf {
+    then: Mode::Comma,
+    limit: USERS as u32,
+    size: NOBODY,
+};
+
+// A user in braces behind another: from the second on they are one level deeper.
+const ANOTHER: Leaf = Leaf {
+    then: Mode::Comma,
+    limit: USERS as u32,
+    size: Size {
+        operands: 1,
+        levels: 1,
+        fits: true,
+        fixed: true,
+        roles: false,
+    },
+};
+
+// What a step comes to: the state that it goes on to, or the end of the set; none where no set goes on so.
+type Step = Option<Option<State>>;
+
+// Goes on to what may stand next.
+fn go(mode: Mode, at: State) -> Step
+    ensures { result ≡ Some (Some (record { mode = mode; depth = at.depth; size = at.size })) }
 {
-    Size {
-        operands: size.operands + 1,
-        levels: size.levels.max(deep),
-        fits: size.fits && fits,
-        fixed: size.fixed && fixed,
-        roles: size.roles && roles,
-    }
+    Some(Some(State { mode, ..at }))
 }
 
-// Reads a number, which fits below the limit, and counts in its operand.
-fn leaf(
-    r: &mut Reader,
-    at: State,
-    then: Mode,
-    limit: u32,
-    fixed: bool,
-    roles: bool,
-    level: usize,
-) -> Step
-    requires deep { at.depth + length (rest r.old) < length r.old.text.now }
-    requires many { at.size.operands + length (rest r.old) < length r.old.text.now }
-    requires one { level ≤ 1 }
-    ensures text { r.new.text.now ≡ r.old.text.now }
-    ensures read { leaf_by then limit fixed roles level at.depth at.size (number_of (rest r.old)) ≡ told result (rest r.new) }
-    ensures room { RoomOf (length r.old.text.now) result (rest r.new) }
-    ensures kept { Kept result (rest r.old) (rest r.new) }
+// Reads a number, and counts in the operand that it ends.
+fn leaf(r: &mut Reader, at: State, leaf: Leaf) -> Step
+    requires deep { at.depth + leaf.size.levels < 2 ^ 64 }
+    requires many { at.size.operands + leaf.size.operands < 2 ^ 64 }
+    ensures { leaf_by leaf at.depth at.size (number_of (rest r.old)) ≡ told result (rest r.new) }
 {
-    match r.number() {
-        Some(n) => Step::Go(State {
-            mode: then,
-            depth: at.depth,
-            size: counted(at.size, at.depth + level, n < limit, fixed, roles),
-        }),
-        None => Step::Bad,
-    }
+    let n = r.number()?;
+    let operand = Size {
+        fits: n < leaf.limit,
+        ..leaf.size
+    };
+    Some(Some(State {
+        mode: leaf.then,
+        depth: at.depth,
+        size: at.size.grow(at.depth, operand),
+    }))
 }
 
 // One step where an operand is due.
 fn operand(r: &mut Reader, at: State) -> Step
-    requires { Room (length r.old.text.now) at (rest r.old) }
-    ensures text { r.new.text.now ≡ r.old.text.now }
-    ensures read { step_at Operand at.depth at.size (rest r.old) ≡ told result (rest r.new) }
-    ensures room { RoomOf (length r.old.text.now) result (rest r.new) }
-    ensures kept { Kept result (rest r.old) (rest r.new) }
+    requires { Room at (rest r.old) }
+    ensures { step_at Operand at.depth at.size (rest r.old) ≡ told result (rest r.new) }
 {
     if r.take(b'(') {
-        return Step::Go(State {
+        return Some(Some(State {
             mode: Mode::Operand,
             depth: at.depth + 1,
             size: at.size,
-        });
+        }));
     }
     if r.take(b'r') {
-        return leaf(r, at, Mode::Sign, ROLES, false, true, 0);
+        return leaf(r, at, ROLE);
     }
     if r.take(b'p') {
-        return leaf(r, at, Mode::Sign, PERMISSIONS, false, false, 0);
+        return leaf(r, at, PERMISSION);
     }
     if !r.take(b'{') {
-        return Step::Bad;
+        return None;
     }
     if r.take(b'}') {
-        return Step::Go(State {
+        return Some(Some(State {
             mode: Mode::Sign,
             depth: at.depth,
-            size: counted(at.size, at.depth, true, true, false),
-        });
+            size: at.size.grow(at.depth, NOBODY),
+        }));
     }
-    Step::Go(State {
-        mode: Mode::User,
-        depth: at.depth,
-        size: at.size,
-    })
+    go(Mode::User, at)
 }
 
 // One step behind an operand.
 fn sign(r: &mut Reader, at: State) -> Step
-    requires { Room (length r.old.text.now) at (rest r.old) }
-    ensures text { r.new.text.now ≡ r.old.text.now }
-    ensures read { step_at Sign at.depth at.size (rest r.old) ≡ told result (rest r.new) }
-    ensures room { RoomOf (length r.old.text.now) result (rest r.new) }
-    ensures kept { Kept result (rest r.old) (rest r.new) }
+    ensures { step_at Sign at.depth at.size (rest r.old) ≡ told result (rest r.new) }
 {
-    if r.take(b'|') {
-        return Step::Go(State {
-            mode: Mode::Operand,
-            depth: at.depth,
-            size: at.size,
-        });
-    }
-    if r.take(b'&') {
-        return Step::Go(State {
-            mode: Mode::Operand,
-            depth: at.depth,
-            size: at.size,
-        });
+    if r.take(b'|') || r.take(b'&') {
+        return go(Mode::Operand, at);
     }
     if at.depth == 0 {
-        return Step::Stop;
+        return Some(None);
     }
     if r.take(b')') {
-        return Step::Go(State {
+        return Some(Some(State {
             mode: Mode::Sign,
             depth: at.depth - 1,
             size: at.size,
-        });
+        }));
     }
-    Step::Bad
+    None
 }
 
 // One step behind a user.
 fn comma(r: &mut Reader, at: State) -> Step
-    requires { Room (length r.old.text.now) at (rest r.old) }
-    ensures text { r.new.text.now ≡ r.old.text.now }
-    ensures read { step_at Comma at.depth at.size (rest r.old) ≡ told result (rest r.new) }
-    ensures room { RoomOf (length r.old.text.now) result (rest r.new) }
-    ensures kept { Kept result (rest r.old) (rest r.new) }
+    ensures { step_at Comma at.depth at.size (rest r.old) ≡ told result (rest r.new) }
 {
     if r.take(b',') {
-        return Step::Go(State {
-            mode: Mode::Another,
-            depth: at.depth,
-            size: at.size,
-        });
+        return go(Mode::Another, at);
     }
     if r.take(b'}') {
-        return Step::Go(State {
-            mode: Mode::Sign,
-            depth: at.depth,
-            size: at.size,
-        });
+        return go(Mode::Sign, at);
     }
-    Step::Bad
+    None
 }
 
-// One user in braces; from the second on they are one level deeper.
-fn user(r: &mut Reader, at: State, level: usize) -> Step
-    requires room { Room (length r.old.text.now) at (rest r.old) }
-    requires one { level ≤ 1 }
-    ensures text { r.new.text.now ≡ r.old.text.now }
-    ensures read { user_step level at.depth at.size (rest r.old) ≡ told result (rest r.new) }
-    ensures room { RoomOf (length r.old.text.now) result (rest r.new) }
-    ensures kept { Kept result (rest r.old) (rest r.new) }
+// One user in braces.
+fn user(r: &mut Reader, at: State, user: Leaf) -> Step
+    requires room { Room at (rest r.old) }
+    requires small { (user.size.levels ≤ 1) × (user.size.operands ≤ 1) }
+    ensures { user_step user at.depth at.size (rest r.old) ≡ told result (rest r.new) }
 {
-    if r.take(b'u') {
-        return leaf(r, at, Mode::Comma, USERS, true, false, level);
+    if !r.take(b'u') {
+        return None;
     }
-    Step::Bad
+    leaf(r, at, user)
 }
 
 // One step of the scanning.
 fn step(r: &mut Reader, at: State) -> Step
-    requires { Room (length r.old.text.now) at (rest r.old) }
-    ensures text { r.new.text.now ≡ r.old.text.now }
-    ensures read { step_of at (rest r.old) ≡ told result (rest r.new) }
-    ensures room { RoomOf (length r.old.text.now) result (rest r.new) }
-    ensures kept { Kept result (rest r.old) (rest r.new) }
+    requires { Room at (rest r.old) }
+    ensures { step_of at (rest r.old) ≡ told result (rest r.new) }
 {
     match at.mode {
         Mode::Operand => operand(r, at),
         Mode::Sign => sign(r, at),
-        Mode::User => user(r, at, 0),
+        Mode::User => user(r, at, USER),
         Mode::Comma => comma(r, at),
-        Mode::Another => user(r, at, 1),
+        Mode::Another => user(r, at, ANOTHER),
     }
 }
 
 // Scans the set at the place, of any depth, and goes to its end.
 pub fn scan(r: &mut Reader) -> Option<Size>
-    ensures text { r.new.text.now ≡ r.old.text.now }
-    ensures told { Scanned (rest r.old) result (rest r.new) }
+    ensures { Scanned (rest r.old) result (rest r.new) }
 {
-    let size = Size {
-        operands: 0,
-        levels: 0,
-        fits: true,
-        fixed: true,
-        roles: true,
-    };
+    // No count of the bytes that are left can wrap, since their slice has a length.
+    let _left = r.rest();
+    let size = Size::empty();
     let mut at = State {
         mode: Mode::Operand,
         depth: 0,
         size,
     };
     loop {
-        match step(r, at) {
-            Step::Go(next) => at = next,
-            Step::Stop => return Some(at.size),
-            Step::Bad => return None,
+        match step(r, at)? {
+            Some(next) => at = next,
+            None => return Some(at.size),
         }
     }
 }

@@ -1,14 +1,17 @@
 -- Somebody who is in neither of two short lists.
-use Rattle.std.proofs.Common.{◌≡◌, ℕ, ◌<◌, ◌≤◌, Bool, true, false, ◌||◌, T, eqb, List, [], ◌∷◌, ◌++◌, map, length, take, refl, ap, subst, ⊎_elim, arith, length-append, length-take}
+use Rattle.std.proofs.Common.{◌≡◌, ℕ, ◌<◌, ◌≤◌, Bool, true, false, ◌||◌, T, eqb, List, [], ◌∷◌, ◌++◌, map, length, sym, refl, ap, subst, ap₂, ⊎_elim, eqb→eq, arith, length-append}
 use Rattle.std.proofs.lemmas.Bool.{both_ways}
 use Rattle.policy.specs.Tests.{listed}
-use Rattle.policy.proofs.Tests.{either, as_test, clash, listed_left, listed_right}
+use lib.Facts.{yes_eqb}
+use Rattle.policy.proofs.Tests.{agree, either, as_test, clash, listed_left, listed_right}
 use Rattle.policy.proofs.Room.{room}
 use Rattle.rbac.specs.declared.users.User.{User as AUser}
 use Rattle.tables.specs.declared.tables.Tables.{Tables}
-use Rattle.tables.specs.Entries.{entries}
+use Rattle.bounded.specs.Entries.{entries}
+use Rattle.bounded.proofs.Listing.{few}
 use Rattle.tables.specs.View.{names, policy_of}
 use Rattle.tables.proofs.Viewing.{trusted_named}
+use Rattle.deciding.specs.declared.plan.Slot.{Slot}
 use Rattle.deciding.proofs.Viewing.{map_length}
 use Rattle.planning.specs.Seats.{seated}
 
@@ -19,6 +22,17 @@ pub names_listed : (xs : List AUser) (u : ℕ) → names xs u ≡ listed (number
 names_listed [] u = refl
 names_listed (x ∷ xs) u = ap (λ b. eqb u x.number || b) (names_listed xs u)
 
+-- the users of slots
+abbrev pub users_of : List Slot → List ℕ
+users_of slots = map (λ x. x.user.number) slots
+
+pub turned_round : (a b : ℕ) → eqb a b ≡ eqb b a
+turned_round a b = agree (eqb a b) (eqb b a) (λ h. yes_eqb (sym (eqb→eq a b h))) (λ h. yes_eqb (sym (eqb→eq b a h)))
+
+pub seated_listed : (slots : List Slot) (u : ℕ) → seated slots u ≡ listed (users_of slots) u
+seated_listed [] u = refl
+seated_listed (x ∷ xs) u = ap₂ ◌||◌ (turned_round x.user.number u) (seated_listed xs u)
+
 pub trusted_listed : (t : Tables) (u : ℕ) → T ((policy_of t).trusted u) → T (listed (numbers (entries t.trusted)) u)
 trusted_listed t u h = subst T (names_listed (entries t.trusted) u) (trusted_named t u h)
 
@@ -26,16 +40,15 @@ pub neither : (a b : Bool) → (a || b) ≡ false → (a ≡ false) × (b ≡ fa
 neither true b e = absurd (both_ways true e refl)
 neither false b e = (refl, e)
 
-pub no_room : (t : Tables) (list : List AUser) (len n : ℕ) → len < 133 → ((k : ℕ) → k < n → (seated list len k || (policy_of t).trusted k) ≡ true) → 165 ≤ n → length (entries t.trusted) ≤ 32 → ⊥
-no_room t list len n l all ge few =
-    let xs : List ℕ = numbers (take len list) in
+pub no_room : (t : Tables) (slots : List Slot) (n : ℕ) → length slots < 133 → ((k : ℕ) → k < n → (seated slots k || (policy_of t).trusted k) ≡ true) → 165 ≤ n → ⊥
+no_room t slots n l all ge =
+    let xs : List ℕ = users_of slots in
     let ys : List ℕ = numbers (entries t.trusted) in
-    let ex : length xs ≡ length (take len list) = map_length (λ x. x.number) (take len list) in
+    let ex : length xs ≡ length slots = map_length (λ x. x.user.number) slots in
     let ey : length ys ≡ length (entries t.trusted) = map_length (λ x. x.number) (entries t.trusted) in
-    let et = length-take len list in
     let eb = length-append xs ys in
-    let (h, below, new) = room 165 (xs ++ ys) (omega arith) in
+    let (h, below, new) = room 165 (xs ++ ys) (omega (arith, few t.trusted)) in
     clash (listed (xs ++ ys) h) (⊎_elim
-    (λ (i : T (seated list len h)). listed_left xs ys h (subst T (names_listed (take len list) h) i))
+    (λ (i : T (seated slots h)). listed_left xs ys h (subst T (seated_listed slots h) i))
     (λ (i : T ((policy_of t).trusted h)). listed_right xs ys h (trusted_listed t h i))
-    (either (seated list len h) ((policy_of t).trusted h) (as_test (seated list len h || (policy_of t).trusted h) (all h (omega arith))))) new
+    (either (seated slots h) ((policy_of t).trusted h) (as_test (seated slots h || (policy_of t).trusted h) (all h (omega arith))))) new

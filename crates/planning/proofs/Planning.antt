@@ -1,7 +1,6 @@
 -- What the plan's parts come to.
-use Rattle.std.proofs.Common.{◌≡◌, ℕ, ◌+◌, ◌<◌, ◌≤◌, Bool, true, false, ◌||◌, T, ◌⊎◌, List, [], ◌∷◌, ◌++◌, map, length, get_or, take, set, Decides, ap, ◌∙◌, subst, ap₂, inl, inr, ⊎_elim, add-one, arith, length-take, get_or-set_same}
+use Rattle.std.proofs.Common.{◌≡◌, ℕ, ◌+◌, ◌<◌, ◌≤◌, Bool, true, false, ◌||◌, T, ◌⊎◌, List, [], ◌∷◌, ◌++◌, map, length, get_or, Decides, Result, Ok, Err, not, sym, refl, ap, ◌∙◌, subst, inl, inr, ⊎_elim, arith}
 use mathlib.Core.Path.{subst⁻¹}
-use lib.Seq.{take-set-le}
 use Rattle.policy.specs.Tests.{listed}
 use Rattle.policy.specs.Membership.{State}
 use Rattle.policy.specs.Rules.{AssignRule, Policy, Nth, first, later}
@@ -14,16 +13,21 @@ use Rattle.rbac.specs.declared.users.User.{User as AUser}
 use Rattle.hierarchy.specs.Edges.{no_roles}
 use Rattle.tables.specs.declared.entries.AssignEntry.{AssignEntry}
 use Rattle.tables.specs.declared.tables.Tables.{Tables}
-use Rattle.tables.specs.Entries.{entries}
+use Rattle.bounded.specs.declared.bounded.Bounded.{Bounded}
+use Rattle.bounded.specs.declared.lists.Full.{Full}
+use Rattle.bounded.specs.Entries.{entries, Pushed}
+use Rattle.bounded.proofs.Listing.{few}
 use Rattle.tables.specs.View.{assign_of, policy_of, state_of}
 use Rattle.tables.specs.Rows.{row_at}
-use Rattle.deciding.specs.Delegates.{no_user, user_at}
+use Rattle.rbac.specs.Roles.{roles_of}
 use Rattle.deciding.proofs.Viewing.{map_length}
+use Rattle.deciding.specs.declared.plan.Slot.{Slot}
 use Rattle.planning.specs.Seats.{Seated, seated}
 use Rattle.planning.specs.Plans.{Planned}
 use Rattle.planning.proofs.Ranking.{small, edge_inside}
 use Rattle.planning.proofs.Rowing.{state_at_lem}
-use Rattle.planning.proofs.Hiring.{numbers, names_listed, trusted_listed}
+use Rattle.planning.proofs.Seating.{one_more}
+use Rattle.planning.proofs.Hiring.{numbers, users_of, seated_listed, trusted_listed}
 
 abbrev All : (AssignRule → Type 0) → List AssignRule → Type 0
 All P [] = Unit {0}
@@ -45,15 +49,15 @@ given_inside : (t : Tables) (n r : ℕ) → T ((policy_of t).gives n r) → r < 
 unfolding policy_of
 given_inside t n r h = small (get_or t.gives n no_roles) r h
 
--- the tables are within the measures, where those with a row are in a list of a hundred at most
-pub measured : (t : Tables) (list : List AUser) (len : ℕ) → len ≤ 100 → ((v : ℕ) → Decides (seated list len v) (Holder (state_of t) v)) → length (entries t.trusted) ≤ 32 → Measured (policy_of t) (state_of t)
-measured t list len few rowed trusting = record {
-  rowed = numbers (take len list);
-  few_rows = let e = map_length (λ (x : AUser). x.number) (take len list) in let f = length-take len list in omega arith;
-  all_rowed = λ u h. subst T (names_listed (take len list) u) (as_test (seated list len u) ((rowed u).1 h));
-  only_rowed = λ u h. (rowed u).0 (as_true (seated list len u) (subst⁻¹ T (names_listed (take len list) u) h));
+-- the tables are within the measures, where those with a row have a hundred slots at most
+pub measured : (t : Tables) (slots : List Slot) → length slots ≤ 100 → ((v : ℕ) → Decides (seated slots v) (Holder (state_of t) v)) → Measured (policy_of t) (state_of t)
+measured t slots small_enough rowed = record {
+  rowed = users_of slots;
+  few_rows = let e = map_length (λ (x : Slot). x.user.number) slots in omega arith;
+  all_rowed = λ u h. subst T (seated_listed slots u) (as_test (seated slots u) ((rowed u).1 h));
+  only_rowed = λ u h. (rowed u).0 (as_true (seated slots u) (subst⁻¹ T (seated_listed slots u) h));
   trusting = numbers (entries t.trusted);
-  few_trusted = let e = map_length (λ (x : AUser). x.number) (entries t.trusted) in omega arith;
+  few_trusted = let e = map_length (λ (x : AUser). x.number) (entries t.trusted) in omega (arith, few t.trusted);
   all_trusted = trusted_listed t;
   assigned_inside = λ u r h. let (l, (j, lj, e, x)) = state_at_lem t u r h in (l, small (row_at t.rows j).roles r x);
   edges_inside = edge_inside t;
@@ -91,24 +95,24 @@ tracked_are q s a b c v d eb ec = (there, back)
         h))
 
 -- the hire in the last slot
-pub planned : (p : Policy) (s : State) (q : Question) (list list' : List AUser) (roles : List RoleSet) (acts : List Bool) (len len' : ℕ) (h : AUser)
-    → list' ≡ set list len h → len' ≡ len + 1 → len < length list → Seated p s list' roles acts len'
-    → ((v : ℕ) → Decides (seated list len v) (Holder s v ⊎ T (listed (names q) v))) → seated list len h.number ≡ false → p.trusted h.number ≡ false
-    → Planned p s q list' roles acts len'
-planned p s q list list' roles acts len len' h el en l z tracked new free = record {
-  seats = z;
-  before = len;
-  last = en ∙ add-one len;
-  tracked = λ u. subst⁻¹ (λ xs. Decides (seated xs len u) (Holder s u ⊎ T (listed (names q) u))) el (subst⁻¹ (λ xs. Decides (Rattle.tables.specs.View.names xs u) (Holder s u ⊎ T (listed (names q) u))) front (tracked u));
-  hire_new = ap₂ (λ xs u. Rattle.tables.specs.View.names xs u) (ap (take len) el ∙ front) last_is ∙ new;
-  hire_free = ap p.trusted last_is ∙ free;
+pub planned : (p : Policy) (s : State) (q : Question) (slots : List Slot) (x : Slot)
+    → Seated p s slots → ((v : ℕ) → Decides (seated slots v) (Holder s v ⊎ T (listed (names q) v)))
+    → x.user.number < 65536 → seated slots x.user.number ≡ false → p.trusted x.user.number ≡ false → roles_of x.roles ≡ s x.user.number → x.acts ≡ true
+    → Planned p s q (slots ++ x ∷ [])
+planned p s q slots x z tracked small new free row may = record {
+  seats = one_more slots x p s small new row (may ∙ sym (ap not free)) z;
+  before = slots;
+  hire = x;
+  last = refl;
+  tracked = tracked;
+  hire_new = new;
+  hire_free = free;
 }
-  where
-    front : take len (set list len h) ≡ take len list
-    front = take-set-le len list len h (omega arith)
 
-    last_is : user_at list' len ≡ h.number
-    last_is = ap (λ xs. user_at xs len) el ∙ ap (λ (x : AUser). x.number) (get_or-set_same list len h no_user l)
+-- what was put where there was room stands last
+pub put_last : (n : ℕ) (slots : Bounded Slot n) (x : Slot) (r : Result (Unit {0}) Full) (after : Bounded Slot n) → length (entries slots) < n → Pushed slots x r after → entries after ≡ entries slots ++ x ∷ []
+put_last n slots x (Ok u) after l e = e
+put_last n slots x (Err f) after l e = absurd (let full = e.1 in omega arith)
 
 -- who has a role keeps a slot while others get theirs
 pub still_held : (s : State) (a b : ℕ → Bool) (c : ℕ → Bool) → ((v : ℕ) → b v ≡ (a v || c v)) → ((u r : ℕ) → T (s u r) → T (a u)) → (u r : ℕ) → T (s u r) → T (b u)

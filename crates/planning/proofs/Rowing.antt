@@ -1,19 +1,19 @@
 -- What the rows of the tables say of the state.
-use Rattle.std.proofs.Common.{◌≡◌, ℕ, zero, suc, ◌+◌, ◌<◌, ◌≤◌, Bool, false, ◌&&◌, T, eqb, ltb, ◌⊎◌, List, [], ◌∷◌, length, Decides, sym, subst, inl, inr, ⊎_elim, not-suc-le-zero, arith, eqb→eq, ltb→lt, lt→ltb}
+use Rattle.std.proofs.Common.{◌≡◌, ℕ, zero, suc, ◌+◌, ◌<◌, ◌≤◌, true, ◌&&◌, T, eqb, ltb, List, [], ◌∷◌, length, Decides, sym, subst, inl, inr, ⊎_elim, not-suc-le-zero, arith, eqb→eq, ltb→lt, lt→ltb}
 use mathlib.Core.Path.{subst⁻¹, fun_ext}
 use lib.Dec.{eqb_refl}
-use Rattle.std.proofs.lemmas.Bool.{cases_eq, cases_lt, both_ways}
+use Rattle.std.proofs.lemmas.Bool.{cases_eq, cases_lt}
+use Rattle.std.specs.List.{list_any}
+use Rattle.std.proofs.lemmas.List.Folds.{list_any_at}
+use Rattle.policy.specs.Tests.{some}
 use Rattle.policy.specs.Bounds.{Holder}
-use Rattle.policy.proofs.Tests.{agree, both, first, second, either, or_left, or_right, as_true, as_test}
+use Rattle.policy.proofs.Tests.{agree, both, first, second, either, or_left, or_right, as_true, as_test, some_at, some_gives}
 use Rattle.rbac.specs.Roles.{roles_of}
 use Rattle.tables.specs.declared.entries.Row.{Row}
 use Rattle.tables.specs.declared.tables.Tables.{Tables}
 use Rattle.tables.specs.View.{assigned, state_of}
-use Rattle.tables.specs.Rows.{no_row, row_at, Used, Clash}
-use Rattle.rbac.specs.declared.users.User.{User as AUser}
-use Rattle.deciding.specs.Delegates.{user_at}
-use Rattle.planning.specs.Seats.{seated}
-use Rattle.planning.proofs.Seating.{seated_at}
+use Rattle.tables.specs.Rows.{no_row, row_at, Used, Clash, is_used, is_of}
+use Rattle.planning.proofs.Ranking.{small}
 
 pub assigned_at : (rows : List Row) (u r : ℕ) → T (assigned rows u r) → (j : ℕ) × (j < length rows) × ((row_at rows j).user.number ≡ u) × T (roles_of (row_at rows j).roles r)
 unfolding assigned
@@ -52,28 +52,31 @@ module _ (t : Tables) (apart : (i j : ℕ) → Clash t.rows i j → ⊥) where
       (λ h. let (lt, (j, lj, e, x)) = state_at_lem t (row_at t.rows i).user.number r h in
       subst (λ k. T (roles_of (row_at t.rows k).roles r)) (one_row j i lj l (r, x) used e) x))
 
--- the users of rows in use among the first
-abbrev pub Rowed : List Row → ℕ → ℕ → Type 0
-Rowed rows n v = (j : ℕ) × (j < n) × Used (row_at rows j) × ((row_at rows j).user.number ≡ v)
+-- a user's row in use, as a test, and as one of the rows
+pub used_is : (x : Row) (u : ℕ) → is_of u x ≡ true → Used x × (x.user.number ≡ u)
+unfolding is_used
+used_is x u e =
+    let t = as_test (is_of u x) e in
+    let (k, l, h) = some_gives 64 (roles_of x.roles) (first (some 64 (roles_of x.roles)) (eqb x.user.number u) t) in
+    ((k, h), eqb→eq x.user.number u (second (some 64 (roles_of x.roles)) (eqb x.user.number u) t))
 
-pub rowed_none : (rows : List Row) (v : ℕ) (b : Bool) → b ≡ false → Decides b (Rowed rows 0 v)
-rowed_none rows v b e = ((λ h. absurd (both_ways b e h)), λ (j, l, u, i). absurd (omega arith))
+pub is_used_row : (x : Row) (r : ℕ) → T (roles_of x.roles r) → is_of x.user.number x ≡ true
+unfolding is_used
+is_used_row x r h = as_true _ (both (some 64 (roles_of x.roles)) (eqb x.user.number x.user.number) (some_at 64 (roles_of x.roles) r (small x.roles r h) h) (eqb_refl x.user.number))
 
-pub rowed_more : (rows : List Row) (n v : ℕ) (b c : Bool) → Decides b (Rowed rows n v) → Decides c (T b ⊎ (Used (row_at rows n) × ((row_at rows n).user.number ≡ v))) → Decides c (Rowed rows (n + 1) v)
-rowed_more rows n v b c before now = (
-  (λ h. ⊎_elim
-      (λ (t : T b). let (j, l, u, e) = before.0 (as_true b t) in (j, omega arith, u, e))
-      (λ (w : Used (row_at rows n) × ((row_at rows n).user.number ≡ v)). (n, omega arith, w.0, w.1))
-      (now.0 h)),
-  λ (j, l, u, e). now.1 (⊎_elim
-      (λ (q : j ≡ n). inr (subst (λ k. Used (row_at rows k) × ((row_at rows k).user.number ≡ v)) q (u, e)))
-      (λ (q : j ≡ n → ⊥). inl (as_test b (before.1 (j, omega arith, u, e))))
-      (cases_eq j n)),
-)
+any_row : (rows : List Row) (v : ℕ) → T (list_any (is_of v) rows) → (j : ℕ) × (j < length rows) × (is_of v (row_at rows j) ≡ true)
+any_row [] v h = absurd h
+any_row (x ∷ xs) v h = elim (either (is_of v x) (list_any (is_of v) xs) h) [
+  | inl i ↦ (0, omega arith, as_true (is_of v x) i)
+  | inr i ↦ let (j, l, e) = any_row xs v i in (suc j, omega arith, e)
+]
 
-pub rowed_all : (t : Tables) (n v : ℕ) (b : Bool) → length t.rows ≤ n → n ≤ length t.rows → (T b → v < 65536) → Decides b (Rowed t.rows n v) → Decides b (Holder (state_of t) v)
-rowed_all t n v b ge le small d = (
-  (λ h. let (j, l, (r, x), e) = d.0 h in
-      (r, subst (λ u. T (state_of t u r)) e (at_state t r j (omega arith) (subst⁻¹ (λ u. u < 65536) e (small (as_test b h))) x))),
-  λ (r, h). let (lt, (j, l, e, x)) = state_at_lem t v r h in d.1 (j, omega arith, (r, x), e),
+-- the users of rows in use are those who have a role
+pub holders : (t : Tables) (v : ℕ) → (T (list_any (is_of v) t.rows) → v < 65536) → Decides (list_any (is_of v) t.rows) (Holder (state_of t) v)
+holders t v small = (
+  (λ h.
+      let (j, l, e) = any_row t.rows v (as_test _ h) in
+      let ((r, x), is) = used_is (row_at t.rows j) v e in
+      (r, subst (λ u. T (state_of t u r)) is (at_state t r j l (subst⁻¹ (λ u. u < 65536) is (small (as_test _ h))) x))),
+  λ (r, h). let (lt, (j, l, e, x)) = state_at_lem t v r h in list_any_at (is_of v) t.rows j no_row l (subst (λ u. is_of u (row_at t.rows j) ≡ true) e (is_used_row (row_at t.rows j) r x)),
 )

@@ -14,24 +14,14 @@ use policy::{PERMISSIONS, ROLES};
 use rbac::{Role, RoleSet};
 use tables::Tables;
 
-fn role(number: usize) -> Role
-    requires { number < roles }
-    ensures { result.number ≡ number }
-{
-    match Role::new(number as u32) {
-        Some(role) => role,
-        None => unreachable(),
-    }
-}
-
 // For each role those that it is senior to.
 fn juniors(hierarchy: &Hierarchy) -> [RoleSet; ROLES]
     ensures full { length result ≡ roles }
     ensures says { (q r : ℕ) → q < roles → Decides (roles_of (slice_index_or result q no_roles) r) (Senior (edges_of hierarchy.now) q r) }
 {
-    let mut below = [RoleSet::from_word(0); ROLES];
-    for q in 0..ROLES {
-        below[q] = hierarchy.juniors(role(q));
+    let mut below = [RoleSet::empty(); ROLES];
+    for (q, set) in below.iter_mut().enumerate() {
+        *set = hierarchy.juniors(Role::modulo(q));
     }
     below
 }
@@ -41,10 +31,10 @@ fn above(below: &[RoleSet], junior: Role) -> RoleSet
     requires { length below.now ≡ roles }
     ensures { (k : ℕ) → roles_of result k ≡ roles_of (slice_index_or below.now k no_roles) junior.number }
 {
-    let mut set = RoleSet::from_word(0);
-    for q in 0..ROLES {
-        if below[q].contains(junior) {
-            set = set.insert(role(q));
+    let mut set = RoleSet::empty();
+    for (q, juniors) in below.iter().enumerate() {
+        if juniors.contains(junior) {
+            set = set.insert(Role::modulo(q));
         }
     }
     set
@@ -56,9 +46,9 @@ fn seniors(below: &[RoleSet]) -> [RoleSet; ROLES]
     ensures full { length result ≡ roles }
     ensures says { (k r : ℕ) → r < roles → roles_of (slice_index_or result r no_roles) k ≡ roles_of (slice_index_or below.now k no_roles) r }
 {
-    let mut masks = [RoleSet::from_word(0); ROLES];
-    for r in 0..ROLES {
-        masks[r] = above(below, role(r));
+    let mut masks = [RoleSet::empty(); ROLES];
+    for (r, mask) in masks.iter_mut().enumerate() {
+        *mask = above(below, Role::modulo(r));
     }
     masks
 }
@@ -68,10 +58,10 @@ fn givers_of(set: RoleSet, seniors: &[RoleSet]) -> RoleSet
     requires { length seniors.now ≡ roles }
     ensures { (k : ℕ) → Decides (roles_of result k) ((r : ℕ) × (r < roles) × T (roles_of set r) × T (down_of seniors.now k r)) }
 {
-    let mut givers = RoleSet::from_word(0);
-    for r in 0..ROLES {
-        if set.contains(role(r)) {
-            givers = givers.union(seniors[r]);
+    let mut givers = RoleSet::empty();
+    for (r, senior) in seniors.iter().enumerate() {
+        if set.contains(Role::modulo(r)) {
+            givers = givers.union(*senior);
         }
     }
     givers
@@ -85,9 +75,9 @@ fn givers(gives: &[RoleSet], seniors: &[RoleSet]) -> [RoleSet; PERMISSIONS]
     ensures given { length gives.now ≡ permissions }
     ensures says { (n k : ℕ) → n < permissions → Decides (down_of result k n) ((r : ℕ) × (r < roles) × T (roles_of (slice_index_or gives.now n no_roles) r) × T (down_of seniors.now k r)) }
 {
-    let mut masks = [RoleSet::from_word(0); PERMISSIONS];
-    for n in 0..PERMISSIONS {
-        masks[n] = givers_of(gives[n], seniors);
+    let mut masks = [RoleSet::empty(); PERMISSIONS];
+    for (mask, set) in masks.iter_mut().zip(gives) {
+        *mask = givers_of(*set, seniors);
     }
     masks
 }

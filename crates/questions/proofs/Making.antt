@@ -8,8 +8,7 @@ use Rattle.policy.specs.Hire.{named, names}
 use Rattle.policy.specs.Tests.{listed}
 use Rattle.policy.specs.Verdicts.{Askable}
 use Rattle.policy.proofs.Tests.{listed_either}
-use Rattle.trees.specs.declared.nodes.Nodes.{Nodes}
-use Rattle.trees.specs.Reading.{listed as nodes_of}
+use Rattle.trees.specs.Reading.{Nodes, listed as nodes_of}
 use Rattle.trees.specs.Trees.{balanced}
 use Rattle.tables.specs.View.{set_of, question_of}
 use Rattle.questions.specs.Naming.{users_in, AllInside}

@@ -7,48 +7,26 @@ use Rattle.policy.specs.Hire.{named}
 use Rattle.policy.proofs.Tests.{either}
 use Rattle.trees.specs.declared.nodes.Node.{Node}
 use Rattle.trees.specs.declared.nodes.Node.TheVariants.{Role, Permission, User, Nobody, Or, And}
-use Rattle.trees.specs.declared.nodes.Nodes.{Nodes}
-use Rattle.trees.specs.Reading.{postfix}
+use Rattle.trees.specs.Reading.{Nodes, postfix}
 use Rattle.trees.specs.Reading.{listed as nodes_of}
 use Rattle.trees.specs.Trees.{balanced, decode}
 use Rattle.trees.proofs.Whole.{balanced_whole, inverse}
 use Rattle.tables.specs.View.{set_of, or_nobody}
 use Rattle.questions.specs.Naming.{users_in, AllInside}
 
-pub or_off : (b : Bool) → (b || false) ≡ b
-or_off true = refl
-or_off false = refl
+-- as many as nodes name a user
+pub users_counted : (ns : List Node) → length (users_in ns) ≡ count_by is_named ns
+users_counted [] = refl
+users_counted (Role n ∷ ns) = users_counted ns
+users_counted (Permission n ∷ ns) = users_counted ns
+users_counted (User u ∷ ns) = ap suc (users_counted ns)
+users_counted (Nobody ∷ ns) = users_counted ns
+users_counted (Or ∷ ns) = users_counted ns
+users_counted (And ∷ ns) = users_counted ns
 
--- one node more
-pub node_first : (n : Node) (ns : List Node) (v : ℕ) → listed (users_in (n ∷ ns)) v ≡ (listed (users_in (n ∷ [])) v || listed (users_in ns) v)
-node_first (Role n) ns v = refl
-node_first (Permission n) ns v = refl
-node_first (User n) ns v = ap (λ b. b || listed (users_in ns) v) (sym (or_off (eqb v n)))
-node_first Nobody ns v = refl
-node_first Or ns v = refl
-node_first And ns v = refl
-
-pub node_count : (n : Node) (ns : List Node) → length (users_in (n ∷ ns)) ≡ length (users_in (n ∷ [])) + length (users_in ns)
-node_count (Role n) ns = omega arith
-node_count (Permission n) ns = omega arith
-node_count (User n) ns = omega arith
-node_count Nobody ns = omega arith
-node_count Or ns = omega arith
-node_count And ns = omega arith
-
--- whom one node more names is in range where it is, and so are those that are left
-pub node_inside : (n : Node) (ns : List Node) (u : ℕ) → AllInside (users_in (n ∷ [])) → T (listed (users_in (n ∷ ns)) u) → (u < 65536) ⊎ T (listed (users_in ns) u)
-node_inside n ns u small h = ⊎_elim (λ (t : T (listed (users_in (n ∷ [])) u)). inl (small u t)) (λ (t : T (listed (users_in ns) u)). inr t)
-    (either (listed (users_in (n ∷ [])) u) (listed (users_in ns) u) (subst T (node_first n ns u) h))
-
--- the nodes in use
-pub next_node : (at : List Node) (len i : ℕ) (d : Node) → len ≤ length at → i < len → drop i (take len at) ≡ get_or at i d ∷ drop (i + 1) (take len at)
-next_node at len i d short lt =
-    let e = length-take-le len at short in
-    drop_more (take len at) i d (omega arith) ∙ ap (λ n. n ∷ drop (i + 1) (take len at)) (get_or-take len at i d lt)
-
-pub no_node : (at : List Node) (len i : ℕ) → len ≤ length at → len ≤ i → drop i (take len at) ≡ []
-no_node at len i short le = let e = length-take-le len at short in drop_all i (take len at) (omega arith)
+-- and where each of these is a user there is, so is each that is named
+pub all_inside : (ns : List Node) → count_by is_named ns ≡ count_by is_inside ns → AllInside (users_in ns)
+all_inside ns same = ?
 
 -- the users that a set's nodes name are those that the set names
 users_join : (xs ys : List Node) → users_in (xs ++ ys) ≡ users_in xs ++ users_in ys

@@ -2,24 +2,16 @@
 use Rattle.std.proofs.Common.{◌≡◌, Bool, true, false, ◌&&◌, List, [], ◌∷◌, ◌++◌, Decides, sym, refl, ap, ◌∙◌, subst, ap₂}
 use mathlib.Core.Path.{subst⁻¹}
 use Rattle.std.proofs.lemmas.Bool.{both_ways}
+use Rattle.std.proofs.lemmas.List.Folds.{list_all-append}
 use Rattle.policy.specs.Sets.{UserSet, members, holders, only, nobody, union, intersection, Static}
 use Rattle.trees.specs.declared.nodes.Node.{Node}
 use Rattle.trees.specs.declared.nodes.Node.TheVariants.{Or, And}
-use Rattle.trees.specs.declared.nodes.Nodes.{Nodes}
-use Rattle.trees.specs.Reading.{postfix}
+use Rattle.trees.specs.Reading.{Nodes, postfix}
 use Rattle.trees.specs.Reading.{listed as nodes_of}
 use Rattle.trees.specs.Trees.{balanced, decode}
 use Rattle.trees.proofs.Whole.{balanced_whole, inverse}
 use Rattle.tables.specs.View.{set_of, or_nobody}
 use Rattle.questions.specs.Statics.{still, all_still}
-
-still_joined : (xs ys : List Node) → all_still (xs ++ ys) ≡ (all_still xs && all_still ys)
-still_joined [] ys = refl
-still_joined (x ∷ xs) ys = ap (λ b. still x && b) (still_joined xs ys) ∙ and_assoc (still x) (all_still xs) (all_still ys)
-  where
-    and_assoc : (a b c : Bool) → (a && (b && c)) ≡ ((a && b) && c)
-    and_assoc true b c = refl
-    and_assoc false b c = refl
 
 and_on : (a b : Bool) → (a && (b && (true && true))) ≡ (a && b)
 and_on true true = refl
@@ -28,7 +20,7 @@ and_on false b = refl
 
 two_parts : (x y : UserSet) (n : Node) → still n ≡ true → all_still (postfix x ++ (postfix y ++ n ∷ [])) ≡ (all_still (postfix x) && all_still (postfix y))
 two_parts x y n e =
-    still_joined (postfix x) (postfix y ++ n ∷ []) ∙ ap (λ b. all_still (postfix x) && b) (still_joined (postfix y) (n ∷ []) ∙ ap (λ b. all_still (postfix y) && (b && true)) e)
+    list_all-append still (postfix x) (postfix y ++ n ∷ []) ∙ ap (λ b. all_still (postfix x) && b) (list_all-append still (postfix y) (n ∷ []) ∙ ap (λ b. all_still (postfix y) && (b && true)) e)
     ∙ and_on (all_still (postfix x)) (all_still (postfix y))
 
 parts : (a b : Bool) → (a && b) ≡ true → (a ≡ true) × (b ≡ true)

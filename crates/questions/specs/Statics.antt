@@ -1,5 +1,6 @@
 -- Nodes that ask nothing of roles.
-use Rattle.std.specs.Prelude.{Bool, true, false, ◌&&◌, List, [], ◌∷◌}
+use Rattle.std.specs.Prelude.{Bool, true, false, List}
+use Rattle.std.specs.List.{list_all}
 use Rattle.trees.specs.declared.nodes.Node.{Node}
 use Rattle.trees.specs.declared.nodes.Node.TheVariants.{Role, Permission, User, Nobody, Or, And}
 
@@ -12,5 +13,4 @@ still Or = true
 still And = true
 
 abbrev pub all_still : List Node → Bool
-all_still [] = true
-all_still (n ∷ ns) = still n && all_still ns
+all_still ns = list_all still ns

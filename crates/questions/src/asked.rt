@@ -17,9 +17,9 @@ impl Inquiry {
     pub fn new(kind: Kind, larger: UserTree, smaller: UserTree) -> Option<Inquiry>
         ensures { MatchOption result (Askable (question_of larger.nodes smaller.nodes) → ⊥) (Asks kind larger smaller) }
     {
-        let semi_static = is_static(&larger) | is_static(&smaller);
+        let semi_static = is_static(&larger) || is_static(&smaller);
         let few = named(&larger) + named(&smaller) <= QUESTION_OPERANDS;
-        if semi_static & few {
+        if semi_static && few {
             Some(Inquiry {
                 kind,
                 larger,

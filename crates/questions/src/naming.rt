@@ -1,22 +1,16 @@
 // How many users a set names.
-ghost use Rattle.std.specs.Prelude.{◌≡◌, ℕ, ◌<◌, ◌≤◌, T, [], ◌∷◌, length};
-ghost use Rattle.policy.specs.Measures.{users};
-ghost use Rattle.policy.specs.Tests.{listed};
+ghost use Rattle.std.specs.Prelude.{◌≡◌, ◌≤◌, length};
 ghost use Rattle.trees.specs.Reading.{listed as nodes_of};
-ghost use Rattle.questions.specs.Naming.{users_in, AllInside};
+ghost use Rattle.questions.specs.Naming.{users_in, is_named, is_inside, AllInside};
 
 use trees::{Node, UserTree};
 
-// One for a user, who is in range, and none for what names nobody.
-fn one(node: Node) -> usize
-    ensures many { result ≡ length (users_in (node ∷ [])) }
-    ensures inside { AllInside (users_in (node ∷ [])) }
-    ensures few { result ≤ 1 }
+// A user, who is in range by the type of the number.
+fn is_user(node: Node) -> bool
+    ensures named { result ≡ is_named node }
+    ensures inside { result ≡ is_inside node }
 {
-    match node {
-        Node::User(_) => 1,
-        _ => 0,
-    }
+    matches!(node, Node::User(_))
 }
 
 pub(crate) fn named(set: &UserTree) -> usize
@@ -24,9 +18,6 @@ pub(crate) fn named(set: &UserTree) -> usize
     ensures inside { AllInside (users_in (nodes_of set.now.nodes)) }
     ensures few { result ≤ 63 }
 {
-    let mut many = 0;
-    for i in 0..set.nodes.len {
-        many += one(set.nodes.at[i]);
-    }
-    many
+    let nodes = set.nodes.entries();
+    nodes.iter().filter(|node| is_user(**node)).count()
 }

@@ -1,11 +1,10 @@
 -- A new board is sound.
-use Rattle.std.proofs.Common.{◌≡◌, ℕ, List, [], ◌∷◌, map, sym, refl, ap, ◌∙◌, subst}
+use Rattle.std.proofs.Common.{◌≡◌, ℕ, [], sym, refl, ap, ◌∙◌, subst}
 use mathlib.Core.Path.{subst⁻¹}
 use Rattle.policy.specs.Rules.{Policy, Nth}
 use Rattle.policy.specs.Regimes.{Regular}
 use Rattle.tables.specs.declared.entries.AssignEntry.{AssignEntry}
 use Rattle.tables.specs.declared.tables.Tables.{Tables}
-use Rattle.tables.specs.Entries.{entries}
 use Rattle.tables.specs.View.{state_of, policy_of, assign_of}
 use Rattle.tables.specs.Rows.{Apart}
 use Rattle.tables.specs.Fresh.{new_policy}

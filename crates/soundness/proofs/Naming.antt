@@ -1,72 +1,62 @@
 -- The roles that entries name, gathered one entry after another.
-use Rattle.std.proofs.Common.{◌≡◌, ℕ, ◌+◌, ◌<◌, Bool, true, false, ◌||◌, T, eqb, List, map, length, get_or, take, Decides, sym, refl, ap, ◌∙◌, eqb→eq}
+use Rattle.std.proofs.Common.{◌≡◌, ℕ, ◌+◌, ◌<◌, Bool, true, false, ◌&&◌, ◌||◌, T, eqb, List, map, length, take, Option, Some, None, MatchOption, is_some, Decides, sym, refl, ap₂, ◌∙◌, subst, eqb→eq}
 use mathlib.Core.Path.{subst⁻¹}
 use lib.Dec.{eqb_refl}
-use Rattle.std.proofs.lemmas.Bool.{eq-eqb}
-use Rattle.policy.specs.Rules.{AssignRule, RevokeRule, Nth}
+use Rattle.std.proofs.lemmas.Bool.{eq-eqb, both_ways}
+use Rattle.policy.specs.Rules.{Nth}
 use Rattle.policy.proofs.Numbered.{at_nth}
 use Rattle.policy.proofs.Numbered.{nth_at as nth_place}
 use Rattle.policy.proofs.Tests.{second, both, as_true, as_test}
 use Rattle.rbac.specs.Roles.{roles_of}
-use Rattle.tables.specs.declared.entries.AssignEntry.{AssignEntry}
-use Rattle.tables.specs.declared.entries.RevokeEntry.{RevokeEntry}
 use Rattle.tables.specs.declared.entries.Row.{Row}
-use Rattle.soundness.specs.declared.regime.Named.{Named}
-use Rattle.soundness.specs.Named.{OfAssigns, OfRevokes}
-use Rattle.tables.specs.View.{assigned, assign_of, revoke_of}
-use Rattle.tables.specs.Rows.{row_at, no_row, Used, is_used}
+use Rattle.tables.specs.View.{assigned}
+use Rattle.tables.specs.Rows.{row_at, no_row, is_used}
 use Rattle.tables.proofs.Listing.{any, any_gives, any_at, any_more, nth_map, map_nth}
 use Rattle.tables.proofs.Placing.{assigned_gives, assigned_at, gives_used}
 
--- one entry more is counted
-pub counted : {A : Type 0} (f : A → ℕ → Bool) (xs : List A) (i : ℕ) (x : A) → i < length xs → x ≡ get_or xs i x → (before after : ℕ → Bool)
-    → ((r : ℕ) → before r ≡ any f (take i xs) r) → after ≡ (λ r. before r || f x r) → (r : ℕ) → after r ≡ any f (take (i + 1) xs) r
-counted f xs i x l is before after h e r = ap (λ g. g r) e ∙ ap (λ b. b || f x r) (h r) ∙ ap (λ y. any f (take i xs) r || f y r) is ∙ sym (any_more f xs i x l r)
-
--- and what was counted is what the rules say
-decided : {A B : Type 0} (f : A → ℕ → Bool) (g : A → B) (P : B → ℕ → Type 0) → ((x : A) (r : ℕ) → T (f x r) → P (g x) r) → ((x : A) (r : ℕ) → P (g x) r → T (f x r))
-    → (xs : List A) (s : ℕ → Bool) → ((r : ℕ) → s r ≡ any f xs r) → (r : ℕ) → Decides (s r) ((k : ℕ) × (y : B) × Nth k y (map g xs) × P y r)
-decided f g P to from xs s is r = (
-  (λ e. let (k, x, n, t) = any_gives f xs r (as_test (any f xs r) (sym (is r) ∙ e)) in (k, g x, nth_map g n, to x r t)),
-  λ (k, y, n, p). let (x, m, e) = map_nth g xs n in is r ∙ as_true (any f xs r) (any_at f m r (from x r (subst⁻¹ (λ z. P z r) e p))),
+-- what was gathered is what the entries say
+pub decided : {A : Type 0} (f : A → ℕ → Bool) (P : A → ℕ → Type 0) → ((x : A) (r : ℕ) → T (f x r) → P x r) → ((x : A) (r : ℕ) → P x r → T (f x r))
+    → (xs : List A) (s : ℕ → Bool) → ((r : ℕ) → s r ≡ any f xs r) → (r : ℕ) → Decides (s r) ((k : ℕ) × (x : A) × Nth k x xs × P x r)
+decided f P to from xs s is r = (
+  (λ e. let (k, x, n, t) = any_gives f xs r (as_test (any f xs r) (sym (is r) ∙ e)) in (k, x, n, to x r t)),
+  λ (k, x, n, p). is r ∙ as_true (any f xs r) (any_at f n r (from x r p)),
 )
 
-abbrev pub assign_admin : AssignEntry → ℕ → Bool
-assign_admin e r = eqb r e.admin.number
+-- and as much of the entries' meanings
+pub meant : {A B : Type 0} (g : A → B) (P : B → Type 0) (xs : List A) (b : Bool) → Decides b ((k : ℕ) × (x : A) × Nth k x xs × P (g x)) → Decides b ((k : ℕ) × (y : B) × Nth k y (map g xs) × P y)
+meant g P xs b d = (
+  (λ e. let (k, x, n, p) = d.0 e in (k, g x, nth_map g n, p)),
+  λ (k, y, n, p). let (x, m, e) = map_nth g xs n in d.1 (k, x, m, subst⁻¹ P e p),
+)
 
-abbrev pub assign_target : AssignEntry → ℕ → Bool
-assign_target e r = roles_of e.targets r
+-- whether the rule is administered by this role
+abbrev pub by_admin : {A : Type 0} → (A → ℕ) → A → ℕ → Bool
+by_admin administers x r = eqb r (administers x)
 
-abbrev pub revoke_admin : RevokeEntry → ℕ → Bool
-revoke_admin e r = eqb r e.admin.number
+pub admins_decided : {A : Type 0} (administers : A → ℕ) (xs : List A) (s : ℕ → Bool) → ((r : ℕ) → s r ≡ any (by_admin administers) xs r) → (r : ℕ) → Decides (s r) ((k : ℕ) × (x : A) × Nth k x xs × (administers x ≡ r))
+admins_decided administers xs s is = decided (by_admin administers) (λ x r. administers x ≡ r) (λ x r h. sym (eqb→eq r (administers x) h)) (λ x r p. as_test _ (eq-eqb r (administers x) (sym p))) xs s is
 
-abbrev pub revoke_target : RevokeEntry → ℕ → Bool
-revoke_target e r = roles_of e.targets r
-
-pub assigns_told : (es : List AssignEntry) (x : Named) → ((r : ℕ) → roles_of x.admins r ≡ any assign_admin es r) → ((r : ℕ) → roles_of x.targets r ≡ any assign_target es r) → OfAssigns (map assign_of es) x
-assigns_told es x a t = record {
-  admins = decided assign_admin assign_of (λ (y : AssignRule) r. y.admin ≡ r) (λ e r h. sym (eqb→eq r e.admin.number h)) (λ e r p. as_test _ (eq-eqb r e.admin.number (sym p))) es (roles_of x.admins) a;
-  targets = decided assign_target assign_of (λ (y : AssignRule) r. T (y.targets r)) (λ e r h. h) (λ e r p. p) es (roles_of x.targets) t;
-}
-
-pub revokes_told : (es : List RevokeEntry) (x : Named) → ((r : ℕ) → roles_of x.admins r ≡ any revoke_admin es r) → ((r : ℕ) → roles_of x.targets r ≡ any revoke_target es r) → OfRevokes (map revoke_of es) x
-revokes_told es x a t = record {
-  admins = decided revoke_admin revoke_of (λ (y : RevokeRule) r. y.admin ≡ r) (λ e r h. sym (eqb→eq r e.admin.number h)) (λ e r p. as_test _ (eq-eqb r e.admin.number (sym p))) es (roles_of x.admins) a;
-  targets = decided revoke_target revoke_of (λ (y : RevokeRule) r. T (y.targets r)) (λ e r h. h) (λ e r p. p) es (roles_of x.targets) t;
-}
+pub targets_decided : {A : Type 0} (aims : A → ℕ → Bool) (xs : List A) (s : ℕ → Bool) → ((r : ℕ) → s r ≡ any aims xs r) → (r : ℕ) → Decides (s r) ((k : ℕ) × (x : A) × Nth k x xs × T (aims x r))
+targets_decided aims xs s is = decided aims (λ x r. T (aims x r)) (λ x r h. h) (λ x r h. h) xs s is
 
 abbrev pub row_roles : Row → ℕ → Bool
 row_roles x r = roles_of x.roles r
 
--- a row that is not in use adds nothing
-pub nothing_new : (rows : List Row) (i : ℕ) → i < length rows → is_used (row_at rows i) ≡ false → (held : ℕ → Bool)
-    → ((r : ℕ) → held r ≡ any row_roles (take i rows) r) → (r : ℕ) → held r ≡ any row_roles (take (i + 1) rows) r
-nothing_new rows i l free held h r = h r ∙ sym (any_more row_roles rows i no_row l r ∙ none (any row_roles (take i rows) r) (roles_of (row_at rows i).roles r) refl)
+-- what a row's holder tells
+pub holder_tells : (x : Row) (o : Option ℕ) → MatchOption o (is_used x ≡ false) (λ n. (is_used x ≡ true) × (n ≡ x.user.number) × (n < 65536)) → (is_used x ≡ is_some o) × (is_used x ≡ true → x.user.number < 65536)
+holder_tells x None h = (h, λ e. absurd (both_ways (is_used x) h e))
+holder_tells x (Some n) h = (h.0, λ _. subst (λ k. k < 65536) h.1 h.2)
+
+-- a row more: its roles are joined where it is in use, and where it is not it adds nothing
+pub row_counted : (rows : List Row) (i : ℕ) → i < length rows → (before after : ℕ → Bool) → ((r : ℕ) → before r ≡ any row_roles (take i rows) r)
+    → ((r : ℕ) → after r ≡ (before r || (is_used (row_at rows i) && row_roles (row_at rows i) r))) → (r : ℕ) → after r ≡ any row_roles (take (i + 1) rows) r
+row_counted rows i l before after h e r =
+    e r ∙ ap₂ (λ a b. a || b) (h r) (some (is_used (row_at rows i)) refl (roles_of (row_at rows i).roles r) refl) ∙ sym (any_more row_roles rows i no_row l r)
   where
-    none : (a b : Bool) → roles_of (row_at rows i).roles r ≡ b → (a || b) ≡ a
-    none true b e = refl
-    none false true e = sym (gives_used (row_at rows i) (r, as_test _ e)) ∙ free
-    none false false e = refl
+    some : (u : Bool) → is_used (row_at rows i) ≡ u → (b : Bool) → roles_of (row_at rows i).roles r ≡ b → (u && b) ≡ b
+    some true f b g = refl
+    some false f true g = sym f ∙ gives_used (row_at rows i) (r, as_test _ g)
+    some false f false g = refl
 
 pub held_told : (rows : List Row) (held : ℕ → Bool) → ((r : ℕ) → held r ≡ any row_roles rows r) → ((k : ℕ) → k < length rows → is_used (row_at rows k) ≡ true → (row_at rows k).user.number < 65536)
     → (r : ℕ) → Decides (held r) ((u : ℕ) × (u < 65536) × T (assigned rows u r))

@@ -1,47 +1,49 @@
 -- The regime's properties, from the sets of roles that they speak of.
-use Rattle.std.proofs.Common.{◌≡◌, ℕ, ◌<◌, Bool, true, false, not, ◌&&◌, ◌||◌, T, eqb, ltb, ◌⊎◌, List, [], ◌∷◌, map, length, get_or, is_some, Some, None, Decides, Option, sym, refl, ap, ◌∙◌, subst, inl, inr, ⊎_elim, lt→ltb, MatchOption}
+use Rattle.std.proofs.Common.{◌≡◌, ℕ, ◌<◌, Bool, true, false, not, ◌&&◌, ◌||◌, T, eqb, ltb, List, [], ◌∷◌, map, length, get_or, is_some, Some, None, Decides, Option, sym, refl, ap, ◌∙◌, subst, inl, inr, ⊎_elim, lt→ltb, MatchOption}
 use mathlib.Core.Path.{subst⁻¹}
 use lib.ListN.{length-map}
 use Rattle.std.proofs.lemmas.List.{nil_from_length}
 use Rattle.std.proofs.lemmas.Bool.{both_ways, eq-eqb, eqb-true, and_parts, and_from}
 use Rattle.policy.specs.Membership.{State}
-use Rattle.policy.specs.Rules.{Policy, aatu, aar}
+use Rattle.policy.specs.Rules.{Policy, aatu, aar, Nth}
 use Rattle.policy.specs.Rules.{Regime as RegimeMeant}
 use Rattle.policy.specs.declared.terms.Regime.TheVariants.{Aatu as aatu_here, Aar as aar_here}
 use Rattle.policy.specs.Regimes.{Administers, Assignable, Revocable, AdminsAreNoTargets, AdminsAreAssigned, AssignableIsRevocable, Aatu, Aar, Regular}
-use Rattle.policy.proofs.Tests.{either, or_left, or_right, clash, first, second, both, deny, as_true, as_test}
+use Rattle.policy.proofs.Tests.{either, or_left, or_right, clash, second, both, deny, as_true, as_test}
 use Rattle.rbac.specs.declared.sets.RoleSet.{RoleSet}
 use Rattle.rbac.specs.declared.users.User.{User}
 use Rattle.rbac.specs.Roles.{roles_of, of_either}
 use Rattle.policy.specs.Terms.{regime_of}
 use Rattle.tables.specs.declared.entries.AssignEntry.{AssignEntry}
 use Rattle.tables.specs.declared.entries.RevokeEntry.{RevokeEntry}
-use Rattle.soundness.specs.declared.regime.Named.{Named}
 use Rattle.tables.specs.declared.tables.Tables.{Tables}
-use Rattle.tables.specs.Entries.{entries}
-use Rattle.soundness.specs.Named.{OfAssigns, OfRevokes}
+use Rattle.bounded.specs.Entries.{entries}
 use Rattle.tables.specs.View.{assigned, state_of, policy_of, assign_of, revoke_of, names}
+use Rattle.soundness.proofs.Naming.{meant}
 use Rattle.tables.proofs.Viewing.{regime_is, trusted_named, trusted_is}
 
-pub assignable_told : (t : Tables) (es : List AssignEntry) → es ≡ entries t.assigns → (x : Named) → OfAssigns (map assign_of es) x → (r : ℕ) → Decides (roles_of x.targets r) (Assignable (policy_of t) r)
+pub assignable_told : (t : Tables) (s : RoleSet) (es : List AssignEntry) → es ≡ entries t.assigns → ((r : ℕ) → Decides (roles_of s r) ((k : ℕ) × (e : AssignEntry) × Nth k e es × T (roles_of e.targets r)))
+    → (r : ℕ) → Decides (roles_of s r) (Assignable (policy_of t) r)
 unfolding policy_of
-assignable_told t es is x told r = (subst (λ (l : List AssignEntry). OfAssigns (map assign_of l) x) is told).targets r
+assignable_told t s es is told r = meant assign_of (λ x. T (x.targets r)) (entries t.assigns) (roles_of s r) (subst (λ (l : List AssignEntry). Decides (roles_of s r) ((k : ℕ) × (e : AssignEntry) × Nth k e l × T (roles_of e.targets r))) is (told r))
 
-pub revocable_told : (t : Tables) (es : List RevokeEntry) → es ≡ entries t.revokes → (x : Named) → OfRevokes (map revoke_of es) x → (r : ℕ) → Decides (roles_of x.targets r) (Revocable (policy_of t) r)
+pub revocable_told : (t : Tables) (s : RoleSet) (es : List RevokeEntry) → es ≡ entries t.revokes → ((r : ℕ) → Decides (roles_of s r) ((k : ℕ) × (e : RevokeEntry) × Nth k e es × T (roles_of e.targets r)))
+    → (r : ℕ) → Decides (roles_of s r) (Revocable (policy_of t) r)
 unfolding policy_of
-revocable_told t es is x told r = (subst (λ (l : List RevokeEntry). OfRevokes (map revoke_of l) x) is told).targets r
+revocable_told t s es is told r = meant revoke_of (λ x. T (x.targets r)) (entries t.revokes) (roles_of s r) (subst (λ (l : List RevokeEntry). Decides (roles_of s r) ((k : ℕ) × (e : RevokeEntry) × Nth k e l × T (roles_of e.targets r))) is (told r))
 
-pub admins_told : (t : Tables) (es : List AssignEntry) (rs : List RevokeEntry) → es ≡ entries t.assigns → rs ≡ entries t.revokes → (x y : Named) → OfAssigns (map assign_of es) x → OfRevokes (map revoke_of rs) y
-    → (s : RoleSet) → roles_of s ≡ of_either (roles_of x.admins) (roles_of y.admins) → (r : ℕ) → Decides (roles_of s r) (Administers (policy_of t) r)
+pub admins_told : (t : Tables) (es : List AssignEntry) (rs : List RevokeEntry) → es ≡ entries t.assigns → rs ≡ entries t.revokes → (x y s : RoleSet) → roles_of s ≡ of_either (roles_of x) (roles_of y)
+    → ((r : ℕ) → Decides (roles_of x r) ((k : ℕ) × (e : AssignEntry) × Nth k e es × (e.admin.number ≡ r))) → ((r : ℕ) → Decides (roles_of y r) ((k : ℕ) × (e : RevokeEntry) × Nth k e rs × (e.admin.number ≡ r)))
+    → (r : ℕ) → Decides (roles_of s r) (Administers (policy_of t) r)
 unfolding policy_of
-admins_told t es rs es-is rs-is x y told-x told-y s is r =
-    let a = (subst (λ (l : List AssignEntry). OfAssigns (map assign_of l) x) es-is told-x).admins r in
-    let b = (subst (λ (l : List RevokeEntry). OfRevokes (map revoke_of l) y) rs-is told-y).admins r in
-    let here : roles_of s r ≡ (roles_of x.admins r || roles_of y.admins r) = ap (λ f. f r) is in (
-      (λ e. ⊎_elim (λ (h : T (roles_of x.admins r)). inl (a.0 (as_true _ h))) (λ (h : T (roles_of y.admins r)). inr (b.0 (as_true _ h))) (either (roles_of x.admins r) (roles_of y.admins r) (as_test _ (sym here ∙ e)))),
+admins_told t es rs es-is rs-is x y s is dx dy r =
+    let a = meant assign_of (λ z. z.admin ≡ r) (entries t.assigns) (roles_of x r) (subst (λ (l : List AssignEntry). Decides (roles_of x r) ((k : ℕ) × (e : AssignEntry) × Nth k e l × (e.admin.number ≡ r))) es-is (dx r)) in
+    let b = meant revoke_of (λ z. z.admin ≡ r) (entries t.revokes) (roles_of y r) (subst (λ (l : List RevokeEntry). Decides (roles_of y r) ((k : ℕ) × (e : RevokeEntry) × Nth k e l × (e.admin.number ≡ r))) rs-is (dy r)) in
+    let here : roles_of s r ≡ (roles_of x r || roles_of y r) = ap (λ f. f r) is in (
+      (λ e. ⊎_elim (λ (h : T (roles_of x r)). inl (a.0 (as_true _ h))) (λ (h : T (roles_of y r)). inr (b.0 (as_true _ h))) (either (roles_of x r) (roles_of y r) (as_test _ (sym here ∙ e)))),
       λ p. here ∙ as_true _ (elim p [
-        | inl q ↦ or_left (roles_of x.admins r) (roles_of y.admins r) (as_test _ (a.1 q))
-        | inr q ↦ or_right (roles_of x.admins r) (roles_of y.admins r) (as_test _ (b.1 q))
+        | inl q ↦ or_left (roles_of x r) (roles_of y r) (as_test _ (a.1 q))
+        | inr q ↦ or_right (roles_of x r) (roles_of y r) (as_test _ (b.1 q))
       ]),
     )
 

@@ -24,7 +24,7 @@ use Rattle.soundness.specs.declared.valid.Valid.{Valid}
 use Rattle.soundness.specs.Valid.{Whole, Sound}
 use Rattle.soundness.specs.Checks.{all_roles}
 use Rattle.tables.proofs.Listing.{any, any_gives, any_at}
-use Rattle.tables.proofs.Placing.{says, assigned_gives, assigned_at}
+use Rattle.tables.proofs.Placing.{assigned_gives, assigned_at}
 use Rattle.soundness.proofs.Regular.{RegimeAsks}
 use Rattle.soundness.proofs.Wholeness.{alone_is}
 

@@ -1,5 +1,6 @@
 -- What the checks of plain tables speak of.
-use Rattle.std.specs.Prelude.{◌≡◌, ℕ, ◌*◌, Bool, true, false, ◌&&◌, List, [], ◌∷◌, length, nat_lt}
+use Rattle.std.specs.Prelude.{◌≡◌, ℕ, ◌*◌, Bool, true, false, List, length, nat_lt}
+use Rattle.std.specs.List.{list_all}
 use Rattle.words.specs.Words.{bits}
 use Rattle.policy.specs.Measures.{users, roles}
 use Rattle.trees.specs.declared.nodes.Node.{Node}
@@ -20,6 +21,5 @@ is_role_node Or = true
 is_role_node And = true
 
 -- the nodes of a set in which nothing but roles stands
-unfoldable pub all_roles : List Node → Bool
-all_roles [] = true
-all_roles (n ∷ ns) = is_role_node n && all_roles ns
+abbrev pub all_roles : List Node → Bool
+all_roles ns = list_all is_role_node ns

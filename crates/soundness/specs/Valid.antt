@@ -9,7 +9,7 @@ use Rattle.tables.specs.declared.entries.Needs.{Needs}
 use Rattle.tables.specs.declared.entries.Needs.TheVariants.{Everybody, Roles}
 use Rattle.tables.specs.declared.entries.AssignEntry.{AssignEntry}
 use Rattle.tables.specs.declared.tables.Tables.{Tables}
-use Rattle.tables.specs.Entries.{entries}
+use Rattle.bounded.specs.Entries.{entries}
 use Rattle.tables.specs.View.{state_of, policy_of}
 use Rattle.tables.specs.Rows.{Apart}
 

@@ -4,7 +4,7 @@ ghost use Rattle.policy.specs.Rules.{Nth};
 ghost use Rattle.trees.specs.Reading.{listed};
 ghost use Rattle.words.specs.Words.{bits};
 ghost use Rattle.tables.specs.declared.entries.AssignEntry.{AssignEntry as Entry};
-ghost use Rattle.tables.specs.Entries.{entries};
+ghost use Rattle.bounded.specs.Entries.{entries};
 ghost use Rattle.tables.specs.Rows.{Apart, Clash};
 ghost use Rattle.soundness.specs.Valid.{Whole, Sound};
 ghost use Rattle.soundness.specs.Checks.{Blank, is_role_node, all_roles};
@@ -12,7 +12,7 @@ ghost use Rattle.soundness.specs.Checks.{Blank, is_role_node, all_roles};
 use crate::regime::regime_kept;
 use policy::{ROLES, USERS};
 use tables::{AssignEntry, Needs, Row, Tables};
-use trees::{Node, Nodes, UserTree};
+use trees::{Node, UserTree};
 use words::{has, put};
 
 // One bit for each user there is.
@@ -39,23 +39,15 @@ fn is_role_node(node: Node) -> bool
 {
     match node {
         Node::Role(role) => (role as usize) < ROLES,
-        Node::Permission(_) => false,
-        Node::User(_) => false,
-        Node::Nobody => false,
-        Node::Or => true,
-        Node::And => true,
+        Node::Or | Node::And => true,
+        _ => false,
     }
 }
 
-fn all_roles(nodes: &Nodes) -> bool
-    ensures { result ≡ all_roles (listed nodes.now) }
+fn all_roles(nodes: &[Node]) -> bool
+    ensures { result ≡ all_roles nodes.now }
 {
-    for i in 0..nodes.len {
-        if !is_role_node(nodes.at[i]) {
-            return false;
-        }
-    }
-    true
+    nodes.iter().all(|node| is_role_node(*node))
 }
 
 fn is_whole(needs: &Needs) -> bool
@@ -63,22 +55,14 @@ fn is_whole(needs: &Needs) -> bool
 {
     match needs {
         Needs::Everybody => true,
-        Needs::Roles(nodes) => match UserTree::new(*nodes) {
-            Some(_) => all_roles(nodes),
-            None => false,
-        },
+        Needs::Roles(nodes) => UserTree::new(*nodes).is_some() && all_roles(nodes.entries()),
     }
 }
 
 fn all_whole(rules: &[AssignEntry]) -> bool
     ensures { Decides result ((k : ℕ) (e : Entry) → Nth k e rules.now → Whole e.needs) }
 {
-    for rule in rules {
-        if !is_whole(&rule.needs) {
-            return false;
-        }
-    }
-    true
+    rules.iter().all(|rule| is_whole(&rule.needs))
 }
 
 // Whether no user has two rows.
@@ -99,5 +83,5 @@ pub fn conditions_whole(tables: &Tables) -> bool
 pub fn is_sound(tables: &Tables) -> bool
     ensures { Decides result (Sound tables.now) }
 {
-    rows_apart(tables) & conditions_whole(tables) & regime_kept(tables)
+    rows_apart(tables) && conditions_whole(tables) && regime_kept(tables)
 }

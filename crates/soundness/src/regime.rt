@@ -1,45 +1,72 @@
 // What the regime asks for, as sets of roles: those that administer, those that rules assign and revoke, and those that somebody has.
-ghost use Rattle.std.specs.Prelude.{◌≡◌, ◌<◌, T, map, length, Decides, MatchOption};
+ghost use Rattle.std.specs.Prelude.{◌≡◌, ℕ, ◌<◌, Bool, T, length, Decides, MatchOption};
 ghost use Rattle.policy.specs.Measures.{users};
 ghost use Rattle.policy.specs.Membership.{User as UserNumber, Role as RoleNumber, IsUser};
+ghost use Rattle.policy.specs.Rules.{Nth};
 ghost use Rattle.policy.specs.Regimes.{Administers, Assignable, Revocable, AdminsAreNoTargets, AdminsAreAssigned, AssignableIsRevocable, Regular};
 ghost use Rattle.rbac.specs.Roles.{roles_of};
-ghost use Rattle.tables.specs.View.{assigned, state_of, policy_of, assign_of, revoke_of, names};
-ghost use Rattle.soundness.specs.Named.{OfAssigns, OfRevokes};
+ghost use Rattle.tables.specs.View.{assigned, state_of, policy_of, names};
 
 use policy::Regime;
-use rbac::{RoleSet, User};
+use rbac::{Role, RoleSet, User};
 use tables::{AssignEntry, RevokeEntry, Row, Tables};
 
-// The roles that rules name: as administering roles, and as targets.
-#[derive(Clone, Copy)]
-struct Named {
-    admins: RoleSet,
-    targets: RoleSet,
+// A rule of either kind: who administers it, and the roles that it assigns or revokes.
+trait Rule {
+    ghost administers: { Self → RoleNumber };
+
+    ghost aims: { Self → RoleNumber → Bool };
+
+    fn admin(&self) -> Role
+        ensures { result.number ≡ administers self.now };
+
+    fn targets(&self) -> RoleSet
+        ensures { roles_of result ≡ aims self.now };
 }
 
-fn of_assigns(rules: &[AssignEntry]) -> Named
-    ensures { OfAssigns (map assign_of rules.now) result }
-{
-    let mut admins = RoleSet::empty();
-    let mut targets = RoleSet::empty();
-    for rule in rules {
-        admins = admins.insert(rule.admin);
-        targets = targets.union(rule.targets);
+impl Rule for AssignEntry {
+    ghost administers = { λ e. e.admin.number };
+
+    ghost aims = { λ e. roles_of e.targets };
+
+    fn admin(&self) -> Role {
+        self.admin
     }
-    Named { admins, targets }
+
+    fn targets(&self) -> RoleSet {
+        self.targets
+    }
 }
 
-fn of_revokes(rules: &[RevokeEntry]) -> Named
-    ensures { OfRevokes (map revoke_of rules.now) result }
-{
-    let mut admins = RoleSet::empty();
-    let mut targets = RoleSet::empty();
-    for rule in rules {
-        admins = admins.insert(rule.admin);
-        targets = targets.union(rule.targets);
+impl Rule for RevokeEntry {
+    ghost administers = { λ e. e.admin.number };
+
+    ghost aims = { λ e. roles_of e.targets };
+
+    fn admin(&self) -> Role {
+        self.admin
     }
-    Named { admins, targets }
+
+    fn targets(&self) -> RoleSet {
+        self.targets
+    }
+}
+
+// The roles that administer some of the rules.
+fn admins_of<R: Rule>(rules: &[R]) -> RoleSet
+    ensures { (r : RoleNumber) → Decides (roles_of result r) ((k : ℕ) × (rule : R) × Nth k rule rules.now × (R.administers rule ≡ r)) }
+{
+    rules.iter().fold(RoleSet::empty(), |admins, rule| admins.insert(rule.admin()))
+}
+
+// The roles that some of the rules assign or revoke.
+fn targets_of<R: Rule>(rules: &[R]) -> RoleSet
+    ensures { (r : RoleNumber) → Decides (roles_of result r) ((k : ℕ) × (rule : R) × Nth k rule rules.now × T (R.aims rule r)) }
+{
+    rules.iter().fold(
+        RoleSet::empty(),
+        |targets, rule| targets.union(rule.targets()),
+    )
 }
 
 fn held_in(rows: &[Row]) -> RoleSet
@@ -47,7 +74,7 @@ fn held_in(rows: &[Row]) -> RoleSet
 {
     let mut held = RoleSet::empty();
     for row in rows {
-        if let Some(_) = row.holder() {
+        if row.holder().is_some() {
             held = held.union(row.roles);
         }
     }
@@ -58,33 +85,30 @@ fn held_in(rows: &[Row]) -> RoleSet
 fn first_named(list: &[User]) -> Option<u16>
     ensures { MatchOption result (length list.now ≡ 0) (λ n. (n < users) × T (names list.now n)) }
 {
-    if list.is_empty() {
-        return None;
-    }
-    Some(list[0].number())
+    list.first().map(|user| user.number())
 }
 
 // The administering roles of all rules.
 pub fn admins(tables: &Tables) -> RoleSet
     ensures { (r : RoleNumber) → Decides (roles_of result r) (Administers (policy_of tables.now) r) }
 {
-    let assigning = of_assigns(tables.assigns.entries());
-    let revoking = of_revokes(tables.revokes.entries());
-    assigning.admins.union(revoking.admins)
+    let assigning = admins_of(tables.assigns.entries());
+    let revoking = admins_of(tables.revokes.entries());
+    assigning.union(revoking)
 }
 
 // The targets of assign rules.
 pub fn assignable(tables: &Tables) -> RoleSet
     ensures { (r : RoleNumber) → Decides (roles_of result r) (Assignable (policy_of tables.now) r) }
 {
-    of_assigns(tables.assigns.entries()).targets
+    targets_of(tables.assigns.entries())
 }
 
 // The targets of revoke rules.
 pub fn revocable(tables: &Tables) -> RoleSet
     ensures { (r : RoleNumber) → Decides (roles_of result r) (Revocable (policy_of tables.now) r) }
 {
-    of_revokes(tables.revokes.entries()).targets
+    targets_of(tables.revokes.entries())
 }
 
 // The roles that are assigned to somebody.

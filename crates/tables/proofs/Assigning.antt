@@ -5,11 +5,9 @@ use Rattle.std.proofs.lemmas.Bool.{cases_eq}
 use Rattle.policy.specs.Runs.{pair}
 use Rattle.policy.proofs.Tests.{either, or_left, or_right, first, second, both, deny, agree, is_it}
 use Rattle.tables.specs.declared.entries.Row.{Row}
-use Rattle.tables.specs.declared.rows.RowChange.TheVariants.{Give, Take}
-use Rattle.tables.specs.declared.tables.Tables.{Tables}
-use Rattle.tables.specs.View.{assigned, state_of}
-use Rattle.tables.specs.Rows.{row_at, no_row, Used, Clash, is_used, is_of, with_rows, Changed, Lent, Apart, plus, minus, Done, Full, Unassigned}
-use Rattle.tables.proofs.Placing.{says, assigned_gives, assigned_at, used_gives, gives_used}
+use Rattle.tables.specs.View.{assigned}
+use Rattle.tables.specs.Rows.{row_at, no_row, Used, Clash}
+use Rattle.tables.proofs.Placing.{says, assigned_gives, assigned_at}
 
 module _ (rows : List Row) (i : ℕ) (x : Row) (lt : i < length rows) where
   pub here : row_at (set rows i x) i ≡ x

@@ -1,6 +1,6 @@
 -- What the tables of a new board say.
 use Rattle.std.proofs.Common.{◌≡◌, ℕ, zero, suc, ◌<◌, ◌≤◌, Bool, true, false, ◌&&◌, ◌||◌, T, eqb, ltb, List, [], map, length, get_or, replicate, refl, ap, ◌∙◌, subst, ⊎_elim, arith}
-use mathlib.Core.Path.{subst⁻¹, fun_ext}
+use mathlib.Core.Path.{fun_ext}
 use lib.ListN.{get_or-replicate, length-replicate}
 use Rattle.std.proofs.lemmas.List.{get_or_past}
 use Rattle.std.proofs.lemmas.Bool.{cases_lt}
@@ -15,7 +15,7 @@ use Rattle.hierarchy.specs.Edges.{edges_of, no_roles, no_edge}
 use Rattle.policy.specs.Terms.{regime_of}
 use Rattle.tables.specs.declared.entries.Row.{Row}
 use Rattle.tables.specs.declared.tables.Tables.{Tables}
-use Rattle.tables.specs.Entries.{entries}
+use Rattle.bounded.specs.Entries.{entries}
 use Rattle.tables.specs.View.{assigned, state_of, policy_of, requirements_of, assign_of, revoke_of, requirement_of, names}
 use Rattle.tables.specs.Rows.{row_at, no_row, Clash}
 use Rattle.tables.specs.Fresh.{nothing_assigned, new_policy}
@@ -33,8 +33,7 @@ unfolding assigned
 unassigned zero x none u r = refl
 unassigned (suc n) x none u r = ap (λ b. b || assigned (replicate n x) u r) (ap (λ f. eqb u x.user.number && f r) none ∙ never (eqb u x.user.number)) ∙ unassigned n x none u r
 
-module _ (t : Tables) (x : Row) (e : RoleSet) (regime : t.regime ≡ aatu_here) (no_role_lem : roles_of x.roles ≡ no_role) (rows : t.rows ≡ replicate 100 x) (no-roles : roles_of e ≡ no_role)
-    (gives : t.gives ≡ replicate 32 e) (edges : edges_of t.hierarchy ≡ no_edge) (trusted : entries t.trusted ≡ []) (assigns : entries t.assigns ≡ []) (revokes : entries t.revokes ≡ []) where
+module _ (t : Tables) (e : RoleSet) (regime : t.regime ≡ aatu_here) (no-roles : roles_of e ≡ no_role) (gives : t.gives ≡ replicate 32 e) (edges : edges_of t.hierarchy ≡ no_edge) (trusted : entries t.trusted ≡ []) (assigns : entries t.assigns ≡ []) (revokes : entries t.revokes ≡ []) where
   given : (n r : ℕ) → roles_of (get_or t.gives n no_roles) r ≡ false
   given n r = ap (λ l. roles_of (get_or l n no_roles) r) gives ∙ ⊎_elim
       (λ (l : n < 32). ap (λ s. roles_of s r) (get_or-replicate 32 n e no_roles l) ∙ ap (λ f. f r) no-roles)
@@ -60,9 +59,9 @@ module _ (t : Tables) (x : Row) (e : RoleSet) (regime : t.regime ≡ aatu_here) 
       ∙ ap (λ a. made aatu no_edge (λ n r. false) (λ u. false) a rs-now) (ap (map assign_of) assigns)
       ∙ ap (λ a. made aatu no_edge (λ n r. false) (λ u. false) [] a) (ap (map revoke_of) revokes)
 
-  pub state_new : state_of t ≡ nothing_assigned
-  unfolding state_of
-  state_new = fun_ext (λ u. fun_ext (λ r. ap (λ l. ltb u 65536 && assigned l u r) rows ∙ ap (λ b. ltb u 65536 && b) (unassigned 100 x no_role_lem u r) ∙ never (ltb u 65536)))
+pub state_new : (t : Tables) (x : Row) → roles_of x.roles ≡ no_role → t.rows ≡ replicate 100 x → state_of t ≡ nothing_assigned
+unfolding state_of
+state_new t x none rows = fun_ext (λ u. fun_ext (λ r. ap (λ l. ltb u 65536 && assigned l u r) rows ∙ ap (λ b. ltb u 65536 && b) (unassigned 100 x none u r) ∙ never (ltb u 65536)))
 
 -- rows without roles are nobody's
 pub apart_new : (rows : List Row) (x : Row) → roles_of x.roles ≡ no_role → rows ≡ replicate 100 x → (i j : ℕ) → Clash rows i j → ⊥

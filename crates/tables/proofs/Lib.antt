@@ -3,6 +3,5 @@ pub mod Assigning
 pub mod Rowing
 pub mod Looking
 pub mod Listing
-pub mod Removing
 pub mod Viewing
 pub mod Freshness

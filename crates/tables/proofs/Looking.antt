@@ -1,7 +1,6 @@
 -- The rows of a user are the user's part of the state.
-use Rattle.std.proofs.Common.{◌≡◌, ℕ, ◌+◌, ◌<◌, Bool, true, false, ◌&&◌, ◌||◌, T, eqb, ltb, List, [], ◌∷◌, length, take, Decides, sym, refl, ap, ◌∙◌, subst, ap₂, arith, lt→ltb}
+use Rattle.std.proofs.Common.{◌≡◌, ℕ, ◌<◌, Bool, ◌&&◌, ◌||◌, T, ltb, List, [], ◌∷◌, Decides, sym, refl, ap, ◌∙◌, subst, lt→ltb}
 use mathlib.Core.Path.{subst⁻¹, fun_ext}
-use Rattle.std.proofs.lemmas.List.{take_all}
 use Rattle.policy.specs.Membership.{Member}
 use Rattle.policy.specs.Sets.{HasPermission}
 use Rattle.policy.proofs.Tests.{as_true, as_test}
@@ -10,8 +9,7 @@ use Rattle.rbac.specs.Roles.{roles_of}
 use Rattle.tables.specs.declared.entries.Row.{Row}
 use Rattle.tables.specs.declared.tables.Tables.{Tables}
 use Rattle.tables.specs.View.{assigned, state_of, policy_of}
-use Rattle.tables.specs.Rows.{row_at, no_row}
-use Rattle.tables.proofs.Listing.{any, any_more}
+use Rattle.tables.proofs.Listing.{any}
 use Rattle.tables.proofs.Placing.{says}
 
 -- what these rows assign to one user
@@ -23,16 +21,10 @@ unfolding assigned
 assigned_any [] u r = refl
 assigned_any (x ∷ xs) u r = ap (λ b. says x u r || b) (assigned_any xs u r)
 
--- one row more
-pub row_more : (rows : List Row) (i u : ℕ) → i < length rows → (before here after : ℕ → Bool) → ((r : ℕ) → before r ≡ any (saying u) (take i rows) r) → ((r : ℕ) → here r ≡ says (row_at rows i) u r)
-    → after ≡ (λ r. before r || here r) → (r : ℕ) → after r ≡ any (saying u) (take (i + 1) rows) r
-row_more rows i u l before here after b h e r = ap (λ f. f r) e ∙ ap₂ (λ x y. x || y) (b r) (h r) ∙ sym (any_more (saying u) rows i no_row l r)
-
 -- all rows are passed
-pub rows_passed : (t : Tables) (i u : ℕ) → length t.rows ≡ 100 → i ≡ 100 → u < 65536 → (s : ℕ → Bool) → ((r : ℕ) → s r ≡ any (saying u) (take i t.rows) r) → s ≡ state_of t u
+pub rows_passed : (t : Tables) (u : ℕ) → u < 65536 → (s : ℕ → Bool) → ((r : ℕ) → s r ≡ any (saying u) t.rows r) → s ≡ state_of t u
 unfolding state_of
-rows_passed t i u many last small s is = fun_ext (λ r.
-    is r ∙ ap (λ xs. any (saying u) xs r) (take_all i t.rows (omega arith)) ∙ assigned_any t.rows u r ∙ ap (λ b. b && assigned t.rows u r) (sym (as_true (ltb u 65536) (lt→ltb u 65536 small))))
+rows_passed t u small s is = fun_ext (λ r. is r ∙ assigned_any t.rows u r ∙ ap (λ b. b && assigned t.rows u r) (sym (as_true (ltb u 65536) (lt→ltb u 65536 small))))
 
 -- a permission is had where its roles and the user's memberships meet
 pub permission_told : (t : Tables) (u n : ℕ) (row given reached : RoleSet) (r : Bool) → roles_of given ≡ (policy_of t).gives n

@@ -1,8 +1,11 @@
 -- Assigning and taking a role by one row.
-use Rattle.std.proofs.Common.{◌≡◌, ℕ, zero, suc, ◌<◌, ◌≤◌, Bool, true, false, not, ◌&&◌, ◌||◌, T, eqb, ltb, ◌≢◌, ◌⊎◌, List, [], ◌∷◌, map, length, set, sym, refl, ap, ◌∙◌, subst, ap₂, inl, inr, ⊎_elim, not-suc-le-zero, arith, eqb→eq, lt→ltb, length-set}
+use Rattle.std.proofs.Common.{◌≡◌, ℕ, zero, suc, ◌<◌, ◌≤◌, Bool, true, false, not, cond, ◌+◌, ◌&&◌, ◌||◌, T, eqb, ltb, ◌≢◌, ◌⊎◌, List, [], ◌∷◌, map, length, set, position, Option, Some, None, MatchOption, Result, Ok, Err, IsErr, sym, refl, ap, ◌∙◌, subst, ap₂, inl, inr, ⊎_elim, not-suc-le-zero, arith, eqb→eq, lt→ltb, ltb→lt, length-set}
 use mathlib.Core.Path.{subst⁻¹, fun_ext}
 use lib.Dec.{eqb_refl}
 use Rattle.std.proofs.lemmas.Bool.{cases_eq, cases_lt, both_ways, and_parts, and_from, eq-eqb, eqb-true}
+use Rattle.std.specs.List.{position_from}
+use Rattle.std.proofs.lemmas.List.Quantifiers.{position-Some}
+use Rattle.std.proofs.lemmas.Iterator.Adapters.{position_from-zero}
 use Rattle.policy.specs.Bounds.{Holder}
 use Rattle.policy.specs.Granting.{FreeRow, Holders}
 use Rattle.policy.specs.Granting.{Apart as ApartUsers}
@@ -14,10 +17,10 @@ use Rattle.rbac.specs.declared.users.User.{User}
 use Rattle.rbac.specs.declared.roles.Role.{Role}
 use Rattle.rbac.specs.Roles.{roles_of}
 use Rattle.tables.specs.declared.entries.Row.{Row}
-use Rattle.tables.specs.declared.rows.RowChange.TheVariants.{Give, Take}
+use Rattle.tables.specs.declared.rows.RowsFull.{RowsFull}
 use Rattle.tables.specs.declared.tables.Tables.{Tables}
 use Rattle.tables.specs.View.{assigned, state_of}
-use Rattle.tables.specs.Rows.{row_at, Used, Clash, is_used, is_of, with_rows, Changed, Lent, Apart, plus, minus, Done, Full, Unassigned}
+use Rattle.tables.specs.Rows.{row_at, no_row, Used, Clash, is_used, is_of, with_rows, Given, Taken, Apart, plus, minus, Done, Full, Assigned, Unassigned}
 use Rattle.tables.proofs.Placing.{says, assigned_gives, assigned_at, used_gives, gives_used}
 use Rattle.tables.proofs.Assigning.{here, there, one_more, one_less, still_apart}
 
@@ -52,7 +55,24 @@ not_true : (b : Bool) → not b ≡ true → b ≡ true → ⊥
 not_true true e f = both_ways false refl e
 not_true false e f = both_ways false refl f
 
-module _ (t : Tables) (i : ℕ) (lt : i < length t.rows) (u : User) (r : Role) (x : Row) (small : u.number < 65536) (given : Changed (Give u r) (row_at t.rows i) x) where
+-- a search that finds nothing
+none_from : (p : Row → Bool) (i : ℕ) (xs : List Row) → position_from p i xs ≡ None → (k : ℕ) → k < length xs → p (row_at xs k) ≡ false
+none_from p i [] e k l = absurd (not-suc-le-zero l)
+none_from p i (x ∷ xs) e zero l = at (p x) e
+  where
+    at : (b : Bool) → cond b (Some i) (position_from p (i + 1) xs) ≡ None → b ≡ false
+    at true f = cc
+    at false f = refl
+none_from p i (x ∷ xs) e (suc k) l = none_from p (i + 1) xs (at (p x) e) k (omega arith)
+  where
+    at : (b : Bool) → cond b (Some i) (position_from p (i + 1) xs) ≡ None → position_from p (i + 1) xs ≡ None
+    at true f = cc
+    at false f = f
+
+none_at : (p : Row → Bool) (xs : List Row) → position p xs ≡ None → (k : ℕ) → k < length xs → p (row_at xs k) ≡ false
+none_at p xs e = none_from p 0 xs (sym (position_from-zero p xs) ∙ e)
+
+module _ (t : Tables) (i : ℕ) (lt : i < length t.rows) (u : User) (r : Role) (x : Row) (small : u.number < 65536) (given : Given u r (row_at t.rows i) x) where
   abbrev rows : List Row
   rows = t.rows
 
@@ -111,19 +131,25 @@ module _ (t : Tables) (i : ℕ) (lt : i < length t.rows) (u : User) (r : Role) (
           (λ p. lt→ltb v 65536 (subst⁻¹ (λ (w : ℕ). w < 65536) (is_it u.number r.number v q p).0 small))
 
 -- a row that is found by its user
-pub done_found : (t : Tables) (i : ℕ) → i < length t.rows → (u : User) (r : Role) (x : Row) → u.number < 65536 → Changed (Give u r) (row_at t.rows i) x
-    → is_of u.number (row_at t.rows i) ≡ true
+pub done_found : (t : Tables) (i : ℕ) (u : User) (r : Role) (x : Row) → u.number < 65536 → Given u r (row_at t.rows i) x → position (is_of u.number) t.rows ≡ Some i
     → (after : Tables) → after ≡ with_rows t (set t.rows i x) → Done t u.number r.number after
-done_found t i lt u r x small given is-of after whole =
-    let (used, number) = of_used u.number (row_at t.rows i) is-of in
+done_found t i u r x small given at after whole =
     done t i lt u r x small given (λ _. number)
-    (λ apart j ne l used-j e. other apart used number j ne l used-j e)
+    (λ apart j ne l used-j e. other apart j ne l used-j e)
     (λ none. absurd (none (subst (λ (n : ℕ). Holder (state_of t) n) number (gives_holder t i lt used (subst⁻¹ (λ (n : ℕ). n < 65536) number small)))))
     after whole
   where
-    other : Apart t → Used (row_at t.rows i) → (row_at t.rows i).user.number ≡ u.number
-        → (j : ℕ) → j ≢ i → j < length t.rows → Used (row_at t.rows j) → (row_at t.rows j).user.number ≡ u.number → ⊥
-    other apart used number j ne l used-j e = ⊎_elim
+    lt : i < length t.rows
+    lt = (position-Some (is_of u.number) t.rows i no_row at).0
+
+    used : Used (row_at t.rows i)
+    used = (of_used u.number (row_at t.rows i) (position-Some (is_of u.number) t.rows i no_row at).1).0
+
+    number : (row_at t.rows i).user.number ≡ u.number
+    number = (of_used u.number (row_at t.rows i) (position-Some (is_of u.number) t.rows i no_row at).1).1
+
+    other : Apart t → (j : ℕ) → j ≢ i → j < length t.rows → Used (row_at t.rows j) → (row_at t.rows j).user.number ≡ u.number → ⊥
+    other apart j ne l used-j e = ⊎_elim
         (λ (h : j < i). apart j i (h, lt, used-j, used, e ∙ sym number))
         (λ (h : i ≤ j). apart i j (omega (arith, ne), l, used, used-j, number ∙ sym e))
         (cases_lt j i)
@@ -141,25 +167,28 @@ as_many [] = refl
 as_many (x ∷ xs) = ap suc (as_many xs)
 
 -- a row that is free, for a user who has none
-pub done_fresh : (t : Tables) (i : ℕ) → length t.rows ≡ 100 → i < 100 → (u : User) (r : Role) (x : Row) → u.number < 65536 → Changed (Give u r) (row_at t.rows i) x
-    → not (is_used (row_at t.rows i)) ≡ true → ((k : ℕ) → k < 100 → is_of u.number (row_at t.rows k) ≡ false)
+pub done_fresh : (t : Tables) (i : ℕ) → length t.rows ≡ 100 → (u : User) (r : Role) (x : Row) → u.number < 65536 → Given u r (row_at t.rows i) x
+    → position (λ row. not (is_used row)) t.rows ≡ Some i → position (is_of u.number) t.rows ≡ None
     → (after : Tables) → after ≡ with_rows t (set t.rows i x) → Done t u.number r.number after
-done_fresh t i full small-i u r x small given free none after whole =
+done_fresh t i full u r x small given at none after whole =
     done t i lt u r x small given
     (λ used. absurd (not_true (is_used (row_at t.rows i)) free (gives_used (row_at t.rows i) used)))
-    (λ apart j ne l used e. not_of u.number (row_at t.rows j) (none j (omega arith)) used e)
+    (λ apart j ne l used e. not_of u.number (row_at t.rows j) (none_at (is_of u.number) t.rows none j l) used e)
     (free_row (state_of t) u.number ys all me (omega (arith, as_many (set t.rows i x), length-set t.rows i x)))
     after whole
   where
     lt : i < length t.rows
-    lt = omega arith
+    lt = (position-Some (λ row. not (is_used row)) t.rows i no_row at).0
+
+    free : not (is_used (row_at t.rows i)) ≡ true
+    free = (position-Some (λ row. not (is_used row)) t.rows i no_row at).1
 
     ys : List ℕ
     ys = users_of (set t.rows i x)
 
     me : T (listed ys u.number)
     me = subst (λ (n : ℕ). T (listed ys n)) (ap (λ (y : Row). y.user.number) (here t.rows i x lt) ∙ ap (λ (v : User). v.number) given.0)
-        (listed_at (set t.rows i x) i (omega (arith, length-set t.rows i x)))
+        (listed_at (set t.rows i x) i (omega (arith, lt, length-set t.rows i x)))
 
     all : (v : ℕ) → Holder (state_of t) v → T (listed ys v)
     all v h =
@@ -189,14 +218,13 @@ all_hold : (P : ℕ → Type 0) (s : ℕ → ℕ → Bool) (rows : List Row) →
 all_hold P s [] f = tt
 all_hold P s (x ∷ xs) f = (f 0 (omega arith), all_hold P s xs (λ k l. f (suc k) (omega arith)))
 
-pub full : (t : Tables) (u : ℕ) → length t.rows ≡ 100 → ((k : ℕ) → k < 100 → is_of u (row_at t.rows k) ≡ false) → ((k : ℕ) → k < 100 → not (is_used (row_at t.rows k)) ≡ false)
-    → ((k : ℕ) → k < 100 → (row_at t.rows k).user.number < 65536) → Full t u t
-full t u many none used small = record {
+pub full : (t : Tables) (u : ℕ) → length t.rows ≡ 100 → position (is_of u) t.rows ≡ None → position (λ row. not (is_used row && ltb row.user.number 65536)) t.rows ≡ None → Full t u t
+full t u many none used = record {
   same = refl;
-  no_row = λ h. let (j, l, used-j, e) = holder_gives t u h in not_of u (row_at t.rows j) (none j (omega arith)) used-j (sym e);
+  no_row = λ h. let (j, l, used-j, e) = holder_gives t u h in not_of u (row_at t.rows j) (none_at (is_of u) t.rows none j l) used-j (sym e);
   no_room = λ apart free.
-      let fits = free (users_of t.rows) (apart_users t.rows apart (λ k l. in_use k (omega arith)))
-      (all_hold (λ _. ℕ) (state_of t) t.rows (λ k l. gives_holder t k l (in_use k (omega arith)) (small k (omega arith)))) in
+      let fits = free (users_of t.rows) (apart_users t.rows apart in_use)
+      (all_hold (λ _. ℕ) (state_of t) t.rows (λ k l. gives_holder t k l (in_use k l) (ltb→lt _ _ (as_test _ (held k l).1)))) in
       omega (arith, as_many t.rows);
 }
   where
@@ -204,21 +232,39 @@ full t u many none used small = record {
     is_true true e = refl
     is_true false e = sym e
 
-    in_use : (k : ℕ) → k < 100 → Used (row_at t.rows k)
-    in_use k l = used_gives (row_at t.rows k) (is_true (is_used (row_at t.rows k)) (used k l))
+    held : (k : ℕ) → k < length t.rows → (is_used (row_at t.rows k) ≡ true) × (ltb (row_at t.rows k).user.number 65536 ≡ true)
+    held k l = and_parts (is_used (row_at t.rows k)) _ (is_true _ (none_at (λ row. not (is_used row && ltb row.user.number 65536)) t.rows used k l))
+
+    in_use : (k : ℕ) → k < length t.rows → Used (row_at t.rows k)
+    in_use k l = used_gives (row_at t.rows k) (held k l).0
+
+-- neither way
+pub refused : (t : Tables) (u r : ℕ) → length t.rows ≡ 100 → (place other : Option ℕ) → place ≡ position (is_of u) t.rows → other ≡ None
+    → MatchOption place (other ≡ position (λ row. not (is_used row && ltb row.user.number 65536)) t.rows) (λ k. other ≡ Some k) → (done : Result (Unit {0}) RowsFull) → IsErr done → Assigned t u r done t
+refused t u r many None other absent at none (Err e) err = full t u many (sym absent) (sym none ∙ at)
+refused t u r many (Some k) other found at same (Err e) err = let none : None ≡ Some k = sym at ∙ same in cc
+refused t u r many place other found at same (Ok x) err = cc
+
+-- one way or the other
+pub found_or_fresh : (t : Tables) (i : ℕ) → length t.rows ≡ 100 → (u : User) (r : Role) (x : Row) → u.number < 65536 → Given u r (row_at t.rows i) x
+    → (place other : Option ℕ) → place ≡ position (is_of u.number) t.rows → other ≡ Some i → MatchOption place (other ≡ position (λ row. not (is_used row)) t.rows) (λ k. other ≡ Some k)
+    → (after : Tables) → after ≡ with_rows t (set t.rows i x) → Done t u.number r.number after
+found_or_fresh t i many u r x small given None other absent at free after whole = done_fresh t i many u r x small given (sym free ∙ at) (sym absent) after whole
+found_or_fresh t i many u r x small given (Some k) other found at same after whole = done_found t i u r x small given (sym found ∙ sym same ∙ at) after whole
 
 -- a role taken from the row that is found
-pub taken : (t : Tables) (i : ℕ) → i < length t.rows → (u r : ℕ) (role : Role) → role.number ≡ r → (x : Row) → Changed (Take role) (row_at t.rows i) x
-    → is_of u (row_at t.rows i) ≡ true → (after : Tables) → after ≡ with_rows t (set t.rows i x) → Unassigned t u r after
+pub taken : (t : Tables) (i : ℕ) (u r : ℕ) (role : Role) → role.number ≡ r → (x : Row) → Taken role (row_at t.rows i) x → position (is_of u) t.rows ≡ Some i
+    → (after : Tables) → after ≡ with_rows t (set t.rows i x) → Unassigned t u r after
 unfolding state_of
-taken t i lt u r role at x given is-of after whole =
+taken t i u r role at x given found after whole =
+    let (lt, is-of, _) = position-Some (is_of u) t.rows i no_row found in
     let (used, number) = of_used u (row_at t.rows i) is-of in
     record {
       others = whole ∙ ap (with_rows t) (sym (ap (λ (y : Tables). y.rows) whole));
       state = λ apart. ap state_of whole ∙ state_is t (set t.rows i x) (minus (state_of t) u r)
-          (λ v q. ap (λ b. ltb v 65536 && b) (one_less t.rows i x lt u r (is number) (λ j ne l s. other apart used number j ne l s) v q)
+          (λ v q. ap (λ b. ltb v 65536 && b) (one_less t.rows i x lt u r (is number) (λ j ne l s. other apart lt used number j ne l s) v q)
           ∙ regroup (ltb v 65536) (assigned t.rows v q) (not (pair u r v q)));
-      apart = λ apart. subst⁻¹ Apart whole (still_apart t.rows i x lt apart (λ j ne l used-j e. same_user apart used j ne l used-j (e ∙ ap (λ (v : User). v.number) given.0)));
+      apart = λ apart. subst⁻¹ Apart whole (still_apart t.rows i x lt apart (λ j ne l used-j e. same_user apart lt used j ne l used-j (e ∙ ap (λ (v : User). v.number) given.0)));
     }
   where
     regroup : (a b c : Bool) → (a && (b && c)) ≡ ((a && b) && c)
@@ -235,21 +281,21 @@ taken t i lt u r role at x given is-of after whole =
         ∙ cut (eqb v (row_at t.rows i).user.number) (roles_of (row_at t.rows i).roles q) (eqb q r)
         ∙ ap (λ n. says (row_at t.rows i) v q && not (eqb v n && eqb q r)) number
 
-    same_user : Apart t → Used (row_at t.rows i) → (j : ℕ) → j ≢ i → j < length t.rows → Used (row_at t.rows j) → (row_at t.rows j).user.number ≡ (row_at t.rows i).user.number → ⊥
-    same_user apart used j ne l used-j e = ⊎_elim
+    same_user : Apart t → i < length t.rows → Used (row_at t.rows i) → (j : ℕ) → j ≢ i → j < length t.rows → Used (row_at t.rows j) → (row_at t.rows j).user.number ≡ (row_at t.rows i).user.number → ⊥
+    same_user apart lt used j ne l used-j e = ⊎_elim
         (λ (h : j < i). apart j i (h, lt, used-j, used, e))
         (λ (h : i ≤ j). apart i j (omega (arith, ne), l, used, used-j, sym e))
         (cases_lt j i)
 
-    other : Apart t → Used (row_at t.rows i) → (row_at t.rows i).user.number ≡ u → (j : ℕ) → j ≢ i → j < length t.rows → T (says (row_at t.rows j) u r) → ⊥
-    other apart used number j ne l s =
+    other : Apart t → i < length t.rows → Used (row_at t.rows i) → (row_at t.rows i).user.number ≡ u → (j : ℕ) → j ≢ i → j < length t.rows → T (says (row_at t.rows j) u r) → ⊥
+    other apart lt used number j ne l s =
         let y = row_at t.rows j in
-        same_user apart used j ne l (r, second (eqb u y.user.number) (roles_of y.roles r) s)
+        same_user apart lt used j ne l (r, second (eqb u y.user.number) (roles_of y.roles r) s)
         (sym (eqb→eq u y.user.number (first (eqb u y.user.number) (roles_of y.roles r) s)) ∙ sym number)
 
 -- nothing to take from a user without a row
-pub untouched : (t : Tables) (u r : ℕ) → length t.rows ≡ 100 → ((k : ℕ) → k < 100 → is_of u (row_at t.rows k) ≡ false) → Unassigned t u r t
-untouched t u r many none = record {
+pub untouched : (t : Tables) (u r : ℕ) → position (is_of u) t.rows ≡ None → Unassigned t u r t
+untouched t u r none = record {
   others = refl;
   state = λ _. fun_ext (λ v. fun_ext (λ q. keep (state_of t v q) (pair u r v q) (λ h p. absurd (absent v q h p))));
   apart = λ apart. apart;
@@ -263,4 +309,4 @@ untouched t u r many none = record {
     absent : (v q : ℕ) → T (state_of t v q) → T (pair u r v q) → ⊥
     absent v q h p =
         let (j, l, used-j, e) = holder_gives t v (q, h) in
-        not_of u (row_at t.rows j) (none j (omega arith)) used-j (sym e ∙ (is_it u r v q p).0)
+        not_of u (row_at t.rows j) (none_at (is_of u) t.rows none j l) used-j (sym e ∙ (is_it u r v q p).0)

@@ -1,10 +1,9 @@
 -- The parts of the policy that the tables say, as lists of their entries.
-use Rattle.std.proofs.Common.{◌≡◌, ℕ, ◌<◌, ◌&&◌, T, ltb, List, map, sym, refl, ap, lt→ltb}
-use Rattle.policy.specs.Rules.{Regime as RegimeMeant}
+use Rattle.std.proofs.Common.{◌≡◌, ℕ, ◌<◌, ◌&&◌, T, ltb, map, sym, refl, ap, lt→ltb}
 use Rattle.policy.proofs.Tests.{second, as_true}
 use Rattle.policy.specs.Terms.{regime_of}
 use Rattle.tables.specs.declared.tables.Tables.{Tables}
-use Rattle.tables.specs.Entries.{entries}
+use Rattle.bounded.specs.Entries.{entries}
 use Rattle.tables.specs.View.{policy_of, assign_of, revoke_of, names}
 
 pub regime_is : (t : Tables) → (policy_of t).regime ≡ regime_of t.regime

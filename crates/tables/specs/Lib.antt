@@ -1,4 +1,3 @@
-pub mod Entries
 pub mod View
 pub mod Rows
 pub mod Fresh

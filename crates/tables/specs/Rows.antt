@@ -1,5 +1,5 @@
 -- What happens to the rows when one of them is changed, and to the state that they say.
-use Rattle.std.specs.Prelude.{◌≡◌, ℕ, ◌<◌, Bool, true, false, not, ◌&&◌, ◌||◌, T, List, length, MatchBool, Option, MatchOption, ◌==◌, slice_index_or, slice_set}
+use Rattle.std.specs.Prelude.{◌≡◌, ℕ, ◌<◌, Bool, not, ◌&&◌, ◌||◌, T, List, length, Result, MatchResult, ◌==◌, slice_index_or, slice_set}
 use Rattle.words.specs.Words.{with}
 use Rattle.policy.specs.Measures.{roles}
 use Rattle.policy.specs.Membership.{State}
@@ -8,10 +8,11 @@ use Rattle.policy.specs.Bounds.{Holder}
 use Rattle.policy.specs.Granting.{FreeRow}
 use Rattle.policy.specs.Tests.{some}
 use Rattle.policy.specs.Runs.{pair}
+use Rattle.rbac.specs.declared.users.User.{User}
+use Rattle.rbac.specs.declared.roles.Role.{Role}
 use Rattle.rbac.specs.Roles.{roles_of, without}
 use Rattle.tables.specs.declared.entries.Row.{Row}
-use Rattle.tables.specs.declared.rows.RowChange.{RowChange}
-use Rattle.tables.specs.declared.rows.RowChange.TheVariants.{Give, Take}
+use Rattle.tables.specs.declared.rows.RowsFull.{RowsFull}
 use Rattle.tables.specs.declared.tables.Tables.{Tables}
 use Rattle.tables.specs.View.{state_of}
 
@@ -42,10 +43,13 @@ is_used x = some roles (roles_of x.roles)
 abbrev pub is_of : UserNumber → Row → Bool
 is_of u x = is_used x && x.user.number == u
 
--- the row after a change: one role more for the user that is given, or one role less
-abbrev pub Changed : RowChange → Row → Row → Type 0
-Changed (Give u r) x y = (y.user ≡ u) × (roles_of y.roles ≡ with (roles_of x.roles) r.number)
-Changed (Take r) x y = (y.user ≡ x.user) × (roles_of y.roles ≡ without (roles_of x.roles) r.number)
+-- the row after a change: one role more, for this user
+abbrev pub Given : User → Role → Row → Row → Type 0
+Given u r x y = (y.user ≡ u) × (roles_of y.roles ≡ with (roles_of x.roles) r.number)
+
+-- or one role less
+abbrev pub Taken : Role → Row → Row → Type 0
+Taken r x y = (y.user ≡ x.user) × (roles_of y.roles ≡ without (roles_of x.roles) r.number)
 
 -- the tables with other rows, and all else as it was
 abbrev pub with_rows : Tables → List Row → Tables
@@ -61,14 +65,10 @@ with_rows t xs = record {
 }
 
 -- only the row at this place was changed, and so
-pub record Lent (t : Tables) (place : ℕ) (change : RowChange) (after : Tables) : Type 0 where
+pub record Lent (change : Row → Row → Type 0) (t : Tables) (place : ℕ) (after : Tables) : Type 0 where
   pub row : Row
-  pub changed : Changed change (row_at t.rows place) row
+  pub changed : change (row_at t.rows place) row
   pub whole : after ≡ with_rows t (slice_set t.rows place row)
-
--- the first place below n that passes the test, or none
-abbrev pub FirstBelow : (ℕ → Bool) → ℕ → Option ℕ → Type 0
-FirstBelow test n r = MatchOption r ((k : ℕ) → k < n → test k ≡ false) (λ i. (i < n) × (test i ≡ true) × ((k : ℕ) → k < i → test k ≡ false))
 
 -- the state with one pair more, and with one less
 abbrev pub plus : State → UserNumber → RoleNumber → State
@@ -92,8 +92,8 @@ pub record Full (t : Tables) (u : UserNumber) (after : Tables) : Type 0 where
   pub no_row : Holder (state_of t) u → ⊥
   pub no_room : Apart t → FreeRow (state_of t) → ⊥
 
-abbrev pub Assigned : Tables → UserNumber → RoleNumber → Bool → Tables → Type 0
-Assigned t u r done after = MatchBool done (Done t u r after) (Full t u after)
+abbrev pub Assigned : Tables → UserNumber → RoleNumber → Result (Unit {0}) RowsFull → Tables → Type 0
+Assigned t u r done after = MatchResult done (λ _. Done t u r after) (λ _. Full t u after)
 
 -- where no user has two rows, the role is taken from the user, and nothing else changed
 pub record Unassigned (t : Tables) (u : UserNumber) (r : RoleNumber) (after : Tables) : Type 0 where

@@ -1,17 +1,15 @@
 -- What the tables say: a state, a policy and standing requirements, in the words of the meaning. Everything above the tables speaks of these alone.
-use Rattle.std.specs.Prelude.{ℕ, Bool, true, false, not, ◌&&◌, ◌||◌, List, [], ◌∷◌, map, Some, None, Option, ◌==◌, nat_lt, slice_index_or}
+use Rattle.std.specs.Prelude.{ℕ, Bool, false, ◌&&◌, ◌||◌, List, [], ◌∷◌, map, Some, None, Option, ◌==◌, nat_lt, slice_index_or}
 use Rattle.policy.specs.Measures.{users}
 use Rattle.policy.specs.Membership.{State}
 use Rattle.policy.specs.Rules.{Condition, everybody, AssignRule, RevokeRule, Policy}
 use Rattle.policy.specs.Sets.{UserSet, nobody, as_condition, Question}
 use Rattle.policy.specs.Requirements.{Requirement, always, never}
 use Rattle.policy.specs.Terms.{regime_of}
-use Rattle.rbac.specs.declared.sets.RoleSet.{RoleSet}
 use Rattle.rbac.specs.declared.users.User.{User}
 use Rattle.rbac.specs.Roles.{roles_of}
 use Rattle.hierarchy.specs.Edges.{edges_of, no_roles}
-use Rattle.trees.specs.declared.nodes.Nodes.{Nodes}
-use Rattle.trees.specs.Reading.{listed}
+use Rattle.trees.specs.Reading.{Nodes, listed}
 use Rattle.trees.specs.Trees.{decode}
 use Rattle.tables.specs.declared.entries.Row.{Row}
 use Rattle.tables.specs.declared.entries.Needs.{Needs}
@@ -22,7 +20,7 @@ use Rattle.tables.specs.declared.entries.Demand.{Demand}
 use Rattle.tables.specs.declared.entries.Demand.TheVariants.{Always, Never}
 use Rattle.tables.specs.declared.entries.RequirementEntry.{RequirementEntry}
 use Rattle.tables.specs.declared.tables.Tables.{Tables}
-use Rattle.tables.specs.Entries.{entries}
+use Rattle.bounded.specs.Entries.{entries}
 
 -- a role is assigned to a user where some row of that user has it
 unfoldable pub assigned : List Row → State

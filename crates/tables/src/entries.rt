@@ -3,7 +3,7 @@ use rbac::{Role, RoleSet, User};
 use trees::Nodes;
 
 // A user and the roles assigned to that user. The row is free while it holds no role.
-#[derive(Clone, Copy)]
+#[derive(Clone, Copy, PartialEq, Eq, Debug)]
 pub struct Row {
     pub user: User,
     pub roles: RoleSet,
@@ -23,14 +23,14 @@ pub struct AssignEntry {
     pub targets: RoleSet,
 }
 
-#[derive(Clone, Copy)]
+#[derive(Clone, Copy, PartialEq, Eq, Debug)]
 pub struct RevokeEntry {
     pub admin: Role,
     pub targets: RoleSet,
 }
 
 // Whether a requirement's question shall be true in every state, or in none.
-#[derive(Clone, Copy)]
+#[derive(Clone, Copy, PartialEq, Eq, Debug)]
 pub enum Demand {
     Always,
     Never,

@@ -1,15 +1,13 @@
 // What a board holds, in plain tables of fixed size, and the meaning of it.
 #![tactic(auto)]
 
-mod bounded;
 mod entries;
 mod fresh;
-mod lists;
 mod lookup;
 mod rows;
 mod tables;
 
-pub use bounded::Bounded;
+pub use bounded::{Bounded, Full};
 pub use entries::{AssignEntry, Demand, Needs, RequirementEntry, RevokeEntry, Row};
-pub use rows::RowChange;
+pub use rows::RowsFull;
 pub use tables::Tables;

@@ -8,16 +8,14 @@ ghost use Rattle.tables.specs.View.{state_of, policy_of};
 
 use crate::entries::Row;
 use crate::tables::Tables;
-use policy::ROWS;
 use rbac::{Permission, Role, RoleSet, User};
 
 impl Row {
     // The row's roles, where it is this user's.
     fn roles_of(&self, user: User) -> RoleSet
-        ensures says { (r : ℕ) → roles_of result r ≡ (user.number == self.now.user.number && roles_of self.now.roles r) }
-        ensures user { user.number < users }
+        ensures { (r : ℕ) → roles_of result r ≡ (user.number == self.now.user.number && roles_of self.now.roles r) }
     {
-        if user.number() == self.user.number() {
+        if self.user == user {
             return self.roles;
         }
         RoleSet::empty()
@@ -29,11 +27,8 @@ impl Tables {
     pub fn assigned(&self, user: User) -> RoleSet
         ensures { roles_of result ≡ state_of self.now user.number }
     {
-        let mut roles = RoleSet::empty();
-        for i in 0..ROWS {
-            roles = roles.union(self.rows[i].roles_of(user));
-        }
-        roles
+        let of_row = |roles: RoleSet, row: &Row| roles.union(row.roles_of(user));
+        self.rows.iter().fold(RoleSet::empty(), of_row)
     }
 
     pub fn is_member(&self, user: User, role: Role) -> bool

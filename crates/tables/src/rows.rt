@@ -1,19 +1,16 @@
 // Rows: one is found by its user, lent for a change, and free again when its last role goes.
-ghost use Rattle.std.specs.Prelude.{◌≡◌, ℕ, ◌<◌, true, false, not, length, IfNone, MatchOption};
+ghost use Rattle.std.specs.Prelude.{◌≡◌, ◌<◌, true, false, not, ◌&&◌, nat_lt, position, MatchOption};
+ghost use Rattle.std.specs.Fn.{FnOnceReturnsAtMut};
 ghost use Rattle.policy.specs.Measures.{users, rows};
-ghost use Rattle.tables.specs.Rows.{Changed, Lent, FirstBelow, is_used, is_of, Assigned, Unassigned, row_at};
+ghost use Rattle.tables.specs.Rows.{Given, Taken, Lent, is_used, is_of, Assigned, Unassigned};
 
 use crate::entries::Row;
 use crate::tables::Tables;
-use policy::ROWS;
 use rbac::{Role, User};
 
-// What a row can be told: to hold one role more, for this user, or one role less.
-#[derive(Clone, Copy)]
-pub enum RowChange {
-    Give(User, Role),
-    Take(Role),
-}
+// Every row is in use, and none of them is the user's.
+#[derive(Clone, Copy, PartialEq, Eq, Debug)]
+pub struct RowsFull;
 
 impl Row {
     fn is_used(&self) -> bool
@@ -23,87 +20,67 @@ impl Row {
     }
 
     fn is_of(&self, user: User) -> bool
-        ensures of { result ≡ is_of user.number self.now }
-        ensures range { self.now.user.number < users }
-        ensures user { user.number < users }
+        ensures { result ≡ is_of user.number self.now }
     {
-        self.is_used() & (self.user.number() == user.number())
+        self.is_used() & (self.user == user)
     }
 
     // The number of the user, where the row is in use.
     pub fn holder(&self) -> Option<u16>
         ensures { MatchOption result (is_used self.now ≡ false) (λ n. (is_used self.now ≡ true) × (n ≡ self.now.user.number) × (n < users)) }
     {
-        if self.is_used() {
-            Some(self.user.number())
-        } else {
-            None
-        }
+        self.is_used().then_some(self.user.number())
     }
 
-    fn change(&mut self, change: RowChange)
-        ensures { Changed change self.old self.new }
+    // The row holds one role more, for this user.
+    fn give(&mut self, user: User, role: Role)
+        ensures { Given user role self.old self.new }
     {
-        match change {
-            RowChange::Give(user, role) => {
-                self.user = user;
-                self.roles = self.roles.insert(role);
-            }
-            RowChange::Take(role) => {
-                self.roles = self.roles.remove(role);
-            }
-        }
+        self.user = user;
+        self.roles = self.roles.insert(role);
+    }
+
+    // The row holds one role less.
+    fn take(&mut self, role: Role)
+        ensures { Taken role self.old self.new }
+    {
+        self.roles = self.roles.remove(role);
     }
 }
 
 impl Tables {
     // Lends one row for a change; no other row, and nothing else, is touched.
-    fn lend(&mut self, place: usize, change: RowChange)
-        requires { place < rows }
-        ensures { Lent self.old place change self.new }
+    fn lend<F: FnOnce(&mut Row)>(&mut self, place: usize, change: F)
+        requires inside { place < rows }
+        requires callable { F.IsAlwaysCallable change }
+        ensures { Lent (λ old new. FnOnceReturnsAtMut F.FnOnce change old tt new) self.old place self.new }
     {
-        let row = &mut self.rows[place];
-        row.change(change);
+        change(&mut self.rows[place]);
     }
 
-    pub(crate) fn place_of(&self, user: User) -> Option<usize>
-        ensures first { FirstBelow (λ k. is_of user.number (row_at self.now.rows k)) rows result }
-        ensures range { IfNone result ((k : ℕ) → k < rows → (row_at self.now.rows k).user.number < users) }
-        ensures user { user.number < users }
-        ensures full { length self.now.rows ≡ rows }
+    fn place_of(&self, user: User) -> Option<usize>
+        ensures { result ≡ position (is_of user.number) self.now.rows }
     {
-        for i in 0..ROWS {
-            if self.rows[i].is_of(user) {
-                return Some(i);
-            }
-        }
-        None
+        self.rows.iter().position(|row| row.is_of(user))
     }
 
     fn free_place(&self) -> Option<usize>
-        ensures { FirstBelow (λ k. not (is_used (row_at self.now.rows k))) rows result }
+        ensures unused { result ≡ position (λ row. not (is_used row)) self.now.rows }
+        ensures held { result ≡ position (λ row. not (is_used row && nat_lt row.user.number users)) self.now.rows }
     {
-        for i in 0..ROWS {
-            if !self.rows[i].is_used() {
-                return Some(i);
-            }
-        }
-        None
+        self.rows.iter().position(|row| row.holder().is_none())
     }
 
-    // Assigns a role to a user; false, and nothing changed, where the user has no row and none is free.
-    pub fn assign(&mut self, user: User, role: Role) -> bool
+    // Assigns a role to a user; nothing is changed where the user has no row and none is free.
+    pub fn assign(&mut self, user: User, role: Role) -> Result<(), RowsFull>
         ensures { Assigned self.old user.number role.number result self.new }
     {
-        let place = match self.place_of(user) {
-            Some(place) => place,
-            None => match self.free_place() {
-                Some(place) => place,
-                None => return false,
-            },
-        };
-        self.lend(place, RowChange::Give(user, role));
-        true
+        let place = self
+            .place_of(user)
+            .or_else(|| self.free_place())
+            .ok_or(RowsFull)?;
+        self.lend(place, |row| row.give(user, role));
+        Ok(())
     }
 
     // Takes a role from a user.
@@ -111,7 +88,7 @@ impl Tables {
         ensures { Unassigned self.old user.number role.number self.new }
     {
         if let Some(place) = self.place_of(user) {
-            self.lend(place, RowChange::Take(role));
+            self.lend(place, |row| row.take(role));
         }
     }
 }

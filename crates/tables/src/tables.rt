@@ -1,6 +1,6 @@
 // All of a board, copied as one value: a change is made to a copy, weighed there, and committed by one assignment.
-use crate::bounded::Bounded;
 use crate::entries::{AssignEntry, RequirementEntry, RevokeEntry, Row};
+use bounded::Bounded;
 use hierarchy::Hierarchy;
 use policy::{ASSIGN_RULES, PERMISSIONS, REQUIREMENTS, REVOKE_RULES, ROWS, Regime, TRUSTED_USERS};
 use rbac::{RoleSet, User};

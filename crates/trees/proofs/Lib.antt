@@ -1,3 +1,4 @@
 pub mod Steps
 pub mod Build
 pub mod Whole
+pub mod Turns

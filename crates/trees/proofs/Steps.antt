@@ -1,24 +1,27 @@
 -- One step of a reader, and one turn of a loop of `set` or `term`.
-use Rattle.std.proofs.Common.{◌≡◌, ℕ, zero, suc, ◌+◌, ◌-◌, ◌<◌, ◌≤◌, false, eqb, List, [], ◌∷◌, length, take, set, IsErrAnd, Result, sym, refl, ap, ◌∙◌, arith, le-ltb, lt-ltb, eq-eqb}
-use Rattle.std.proofs.lemmas.List.{take_more_set, length-take-le}
+use Rattle.std.proofs.Common.{◌≡◌, ℕ, zero, suc, ◌-◌, ◌<◌, ◌≤◌, false, eqb, List, [], ◌∷◌, length, IsErrAnd, Option, Some, Result, sym, refl, ap, ◌∙◌, arith, le-ltb, lt-ltb, eq-eqb}
 use Rattle.std.proofs.lemmas.Bool.{cond-true, cond-false}
 use Rattle.trees.specs.declared.nodes.Node.{Node}
 use Rattle.grammar.specs.declared.grounds.Ground.{Ground}
 use Rattle.trees.specs.declared.nodes.Node.TheVariants.{Role, Permission}
 use Rattle.std.proofs.lemmas.Result.{err_from_is_err_and}
-use Rattle.grammar.specs.Text.{ahead, behind, begins}
+use Rattle.grammar.specs.Text.{ahead, behind, begins, number, got, none}
 use Rattle.grammar.proofs.Digits.{ahead_is, ahead_not}
-use Rattle.trees.specs.Reading.{Res, ok, bad, Reading, told, and_then, pick, add, more, chain, leaf_at, users_at, braces_at, close, inside, factor_at, term_at, set_at}
+use Rattle.trees.specs.Reading.{Res, ok, bad, Reading, told, and_then, pick, add, more, chain, limited, leaf_of, leaf_at, users_at, braces_at, close, inside, factor_at, term_at, set_at}
 
-pub add_fits : (n : Node) (s : List ℕ) (a : List Node) (k : ℕ) → length a ≡ 63 → k < 63 → add n s (take k a) ≡ ok s (take (k + 1) (set a k n))
-add_fits n s a k e h =
-    let l : length (take k a) ≡ k = length-take-le k a (omega arith) in
-    cond-true _ _ _ (lt-ltb (length (take k a)) 63 (omega arith)) ∙ ap (ok s) (sym (take_more_set a k n (omega arith)))
+-- a number and its node
+module _ (made : ℕ → Node) (limit : ℕ) (s x : List ℕ) (ns : List Node) where
+  pub no_number : number s ≡ none → leaf_at made limit s ns ≡ bad
+  unfolding leaf_at
+  no_number e = ap (λ r. leaf_of made (limited limit r) ns) e
 
-pub add_full : (n : Node) (s : List ℕ) (a : List Node) (k : ℕ) → length a ≡ 63 → k ≤ 63 → 63 ≤ k → add n s (take k a) ≡ bad
-add_full n s a k e h g =
-    let l : length (take k a) ≡ k = length-take-le k a (omega arith) in
-    cond-false _ _ _ (le-ltb (length (take k a)) 63 (omega arith))
+  pub too_large : (n : ℕ) → number s ≡ got n x → limit ≤ n → leaf_at made limit s ns ≡ bad
+  unfolding leaf_at
+  too_large n e l = ap (λ r. leaf_of made (limited limit r) ns) e ∙ ap (λ r. leaf_of made r ns) (cond-false _ _ _ (le-ltb n limit l))
+
+  pub small_enough : (n : ℕ) → number s ≡ got n x → n < limit → leaf_at made limit s ns ≡ add (made n) x ns
+  unfolding leaf_at
+  small_enough n e l = ap (λ r. leaf_of made (limited limit r) ns) e ∙ ap (λ r. leaf_of made r ns) (cond-true _ _ _ (lt-ltb n limit l))
 
 pub pick_take : (c : ℕ) (s s1 : List ℕ) (then : List ℕ → Res) (other : Res) → s ≡ c ∷ s1 → pick c s then other ≡ then s1
 pick_take c s s1 then other e = ap (λ l. pick c l then other) e ∙ cond-true (eqb c c) (then s1) other (eq-eqb c c refl)
@@ -102,9 +105,9 @@ unfolding braces_at
 brace_users s s1 ns R a e i = pick_not 125 s _ _ a ∙ ap (λ r. and_then r (close 125)) (ap (λ l. users_at l ns) e ∙ i)
 
 -- the sign that was seen and passed over
-pub passed : (s s1 : List ℕ) (r c : ℕ) → r ≡ ahead s → r ≡ c → 0 < c → s1 ≡ behind s → s ≡ c ∷ s1
-passed s s1 r c a e h b = ahead_is s c h (sym a ∙ e) ∙ ap (λ l. c ∷ l) (sym b)
+pub passed : (s s1 : List ℕ) (r : Option ℕ) (c : ℕ) → r ≡ ahead s → r ≡ Some c → s1 ≡ behind s → s ≡ c ∷ s1
+passed s s1 r c a e b = ahead_is s c (sym a ∙ e) ∙ ap (λ l. c ∷ l) (sym b)
 
 -- a sign that was seen is no other
-pub unlike : (s : List ℕ) (r c : ℕ) → r ≡ ahead s → (r ≡ c → ⊥) → begins c s ≡ false
+pub unlike : (s : List ℕ) (r : Option ℕ) (c : ℕ) → r ≡ ahead s → (r ≡ Some c → ⊥) → begins c s ≡ false
 unlike s r c a n = ahead_not s c (λ e. n (a ∙ e))

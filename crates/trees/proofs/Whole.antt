@@ -1,7 +1,7 @@
 -- A set's nodes are balanced, balanced nodes are a set's, and decoding gives it back.
-use Rattle.std.proofs.Common.{◌≡◌, ℕ, ◌+◌, ◌-◌, ◌<◌, ◌≤◌, Bool, true, false, cond, eqb, ltb, List, [], ◌∷◌, ◌++◌, length, get_or, take, drop, Some, None, sym, refl, ap, ◌∙◌, subst, append_assoc, append-nil, arith, le-ltb, lt-ltb, eqb-true}
+use Rattle.std.proofs.Common.{◌≡◌, ℕ, ◌+◌, ◌-◌, ◌<◌, ◌≤◌, Bool, true, false, cond, eqb, ltb, List, [], ◌∷◌, ◌++◌, length, get_or, drop, Some, None, sym, refl, ap, ◌∙◌, subst, append_assoc, append-nil, arith, le-ltb, lt-ltb, eqb-true}
 use borrow.Author.Tests.{clash}
-use Rattle.std.proofs.lemmas.List.{drop_more, drop_all, length-take-le, get_or-take}
+use Rattle.std.proofs.lemmas.List.{drop_more, drop_all}
 use Rattle.std.proofs.lemmas.Bool.{cond-true, cond-false}
 use Rattle.policy.specs.Sets.{UserSet, members, holders, only, nobody, union, intersection}
 use Rattle.trees.specs.declared.nodes.Node.{Node}
@@ -66,9 +66,6 @@ tree_of (And ∷ ns) (y ∷ x ∷ st) h e b =
 pub balanced_whole : (ns : List Node) → balanced 0 ns ≡ true → Whole ns
 balanced_whole ns b = tree_of ns [] 0 refl b
 
-pub balanced_more : (ns : List Node) (i h : ℕ) (n d : Node) → i < length ns → get_or ns i d ≡ n → balanced h (drop i ns) ≡ balanced h (n ∷ drop (i + 1) ns)
-balanced_more ns i h n d l e = ap (balanced h) (drop_more ns i d l ∙ ap (λ x. x ∷ drop (i + 1) ns) e)
-
 pub balanced_end : (ns : List Node) (i h : ℕ) → length ns ≤ i → balanced h (drop i ns) ≡ eqb h 1
 balanced_end ns i h l = ap (balanced h) (drop_all i ns l)
 
@@ -88,25 +85,19 @@ join_first h Nobody ns e = absurd (clash e)
 join_first h Or ns e = refl
 join_first h And ns e = refl
 
--- the nodes in use, in their array
-module _ (at : List Node) (len i : ℕ) (d : Node) (short : len ≤ length at) (lt : i < len) where
-  in_use : i < length (take len at)
-  in_use = let e = length-take-le len at short in omega arith
+-- a turn of the check, at the node of index i
+module _ (ns : List Node) (i : ℕ) (d : Node) (lt : i < length ns) where
+  turn_balanced : (h : ℕ) → balanced h (drop i ns) ≡ balanced h (get_or ns i d ∷ drop (i + 1) ns)
+  turn_balanced h = ap (balanced h) (drop_more ns i d lt)
 
-  pub turn_balanced : (h : ℕ) (n : Node) → get_or at i d ≡ n → balanced h (drop i (take len at)) ≡ balanced h (n ∷ drop (i + 1) (take len at))
-  turn_balanced h n e = balanced_more (take len at) i h n d in_use (get_or-take len at i d lt ∙ e)
+  pub turn_leaf : (h : ℕ) → is_join (get_or ns i d) ≡ false → balanced h (drop i ns) ≡ balanced (h + 1) (drop (i + 1) ns)
+  turn_leaf h e = turn_balanced h ∙ leaf_first h (get_or ns i d) (drop (i + 1) ns) e
 
-  pub turn_leaf : (h : ℕ) → is_join (get_or at i d) ≡ false → balanced h (drop i (take len at)) ≡ balanced (h + 1) (drop (i + 1) (take len at))
-  turn_leaf h e = turn_balanced h (get_or at i d) refl ∙ leaf_first h (get_or at i d) (drop (i + 1) (take len at)) e
+  pub turn_low : (h : ℕ) → is_join (get_or ns i d) ≡ true → h < 2 → balanced h (drop i ns) ≡ false
+  turn_low h e l = turn_balanced h ∙ join_first h (get_or ns i d) (drop (i + 1) ns) e ∙ cond-true _ _ _ (lt-ltb h 2 l)
 
-  pub turn_low : (h : ℕ) → is_join (get_or at i d) ≡ true → h < 2 → balanced h (drop i (take len at)) ≡ false
-  turn_low h e l = turn_balanced h (get_or at i d) refl ∙ join_first h (get_or at i d) (drop (i + 1) (take len at)) e ∙ cond-true _ _ _ (lt-ltb h 2 l)
-
-  pub turn_join : (h : ℕ) → is_join (get_or at i d) ≡ true → 2 ≤ h → balanced h (drop i (take len at)) ≡ balanced (h - 1) (drop (i + 1) (take len at))
-  turn_join h e l = turn_balanced h (get_or at i d) refl ∙ join_first h (get_or at i d) (drop (i + 1) (take len at)) e ∙ cond-false _ _ _ (le-ltb h 2 l)
-
-pub end_balanced : (at : List Node) (len i h : ℕ) → len ≤ length at → len ≤ i → balanced h (drop i (take len at)) ≡ eqb h 1
-end_balanced at len i h k l = let e = length-take-le len at k in balanced_end (take len at) i h (omega arith)
+  pub turn_join : (h : ℕ) → is_join (get_or ns i d) ≡ true → 2 ≤ h → balanced h (drop i ns) ≡ balanced (h - 1) (drop (i + 1) ns)
+  turn_join h e l = turn_balanced h ∙ join_first h (get_or ns i d) (drop (i + 1) ns) e ∙ cond-false _ _ _ (le-ltb h 2 l)
 
 pub refused : (ns : List Node) → balanced 0 ns ≡ false → Whole ns → ⊥
 refused ns e w = clash (sym e ∙ whole_balanced ns w)

@@ -1,3 +1,4 @@
 pub mod Reading
+pub mod Builds
 pub mod Trees
 pub mod Made

@@ -1,9 +1,8 @@
 -- What the check of plain nodes answers.
 use Rattle.std.specs.Prelude.{◌≡◌, Some, None, Option, ◌≢◌}
 use Rattle.policy.specs.Sets.{UserSet}
-use Rattle.trees.specs.declared.nodes.Nodes.{Nodes}
 use Rattle.trees.specs.declared.tree.UserTree.{UserTree}
-use Rattle.trees.specs.Reading.{postfix, listed}
+use Rattle.trees.specs.Reading.{postfix, Nodes, listed}
 
 -- a user set of exactly these nodes where they are a set's, and none otherwise
 abbrev pub Made : Nodes → Option UserTree → Type 0

@@ -1,9 +1,10 @@
 -- How a set is read into nodes: an executable reading on lists.
-use Rattle.std.specs.Prelude.{◌≡◌, ℕ, zero, suc, ◌≤◌, true, cond, List, [], ◌∷◌, ◌++◌, length, take, Some, None, Ok, Err, Option, Result, ◌==◌, nat_lt}
+use Rattle.std.specs.Prelude.{◌≡◌, ℕ, zero, suc, ◌≤◌, true, cond, List, [], ◌∷◌, ◌++◌, length, Some, None, Ok, Err, Option, Result, ◌==◌, nat_lt}
 use Rattle.grammar.specs.Text.{Read, got, none, number}
 use Rattle.policy.specs.Sets.{UserSet, members, holders, only, nobody, union, intersection}
 use Rattle.grammar.specs.Phrase.{set, Phrase, meaning, levels, operands, in_range, Written, Ends}
-use Rattle.trees.specs.declared.nodes.Nodes.{Nodes}
+use Rattle.bounded.specs.Entries.{entries}
+use Rattle.bounded.specs.declared.bounded.Bounded.{Bounded}
 use Rattle.trees.specs.declared.nodes.Node.{Node}
 use Rattle.trees.specs.declared.nodes.Node.TheVariants.{Role, Permission, User, Nobody, Or, And}
 use Rattle.grammar.specs.declared.grounds.Ground.{Ground}
@@ -17,8 +18,13 @@ postfix nobody = Nobody ∷ []
 postfix (union l r) = postfix l ++ (postfix r ++ Or ∷ [])
 postfix (intersection l r) = postfix l ++ (postfix r ++ And ∷ [])
 
+-- at most 63 nodes in a table
+abbrev pub Nodes : Type 0
+Nodes = Bounded Node 63
+
+-- those in use
 abbrev pub listed : Nodes → List Node
-listed n = take n.len n.at
+listed n = entries n
 
 -- what a reading comes to: what is left with the nodes, or nothing
 pub data Res : Type 0 where

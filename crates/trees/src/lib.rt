@@ -4,7 +4,7 @@
 mod nodes;
 mod tree;
 
-pub use nodes::{Node, Nodes};
+pub use nodes::{NODES, Node, Nodes, no_nodes};
 pub use tree::UserTree;
 
 pub mod check;

@@ -1,6 +1,12 @@
-ghost use Rattle.std.specs.Prelude.{◌≡◌, ◌≤◌, length};
+ghost use Rattle.std.specs.Prelude.{◌≡◌, []};
+ghost use Rattle.trees.specs.Reading.{listed};
 
-#[derive(Clone, Copy, PartialEq, Eq)]
+use bounded::Bounded;
+
+// How many nodes a set of 32 operands has, with the operators between them.
+pub const NODES: usize = 63;
+
+#[derive(Clone, Copy, Debug, PartialEq, Eq)]
 pub enum Node {
     Role(u8),
     Permission(u8),
@@ -11,10 +17,11 @@ pub enum Node {
 }
 
 // Plain nodes in a fixed table, operators behind their operands.
-#[derive(Clone, Copy)]
-pub struct Nodes {
-    pub at: [Node; 63],
-    pub len: usize,
-    ghost full: { length at ≡ 63 },
-    ghost ok: { len ≤ 63 },
+pub type Nodes = Bounded<Node, NODES>;
+
+// No nodes.
+pub fn no_nodes() -> Nodes
+    ensures { listed result ≡ [] }
+{
+    Bounded::new(Node::Nobody)
 }

@@ -22,7 +22,7 @@ use Rattle.rbac.specs.Roles.{roles_of}
 use Rattle.hierarchy.specs.Edges.{no_roles}
 use Rattle.trees.specs.declared.nodes.Node.{Node}
 use Rattle.trees.specs.declared.nodes.Node.TheVariants.{Or, And}
-use Rattle.trees.specs.declared.nodes.Nodes.{Nodes}
+use Rattle.trees.specs.Reading.{Nodes}
 use Rattle.trees.specs.Reading.{postfix}
 use Rattle.trees.specs.Reading.{listed as nodes_of}
 use Rattle.trees.specs.Trees.{balanced, decode}

@@ -1,6 +1,6 @@
-use Rattle.std.proofs.Common.{sym, ◌∙◌}
+use Rattle.std.proofs.Common.{length, sym, ap, ◌∙◌, rules}
 use Rattle.deciding.proofs.Viewing.{rules_are}
 use Rattle.deciding.proofs.delegating.rules.Goals as goal
 
-pub returns : goal.returns
-returns c = record { all = c.in_use.ensures.used ∙ sym (rules_are c.args.tables.now); few = c.in_use.ensures.few }
+pub returns-clause-all : goal.returns-clause-all
+returns-clause-all c = search (rules, rules_are)

@@ -1,14 +1,18 @@
-use Rattle.std.proofs.Common.{sym, ap, ◌∙◌, arith}
+use Rattle.std.proofs.Common.{◌≡◌, true, None, sym, ap, ◌∙◌, subst, arith}
+use mathlib.Core.Path.{subst⁻¹}
 use Rattle.policy.specs.Delegation.{meets_test}
 use Rattle.rbac.specs.Roles.{roles_of}
-use Rattle.tables.specs.View.{set_of, condition_of}
-use Rattle.deciding.specs.Masked.{down_of}
+use Rattle.trees.specs.Trees.{balanced, decode}
+use Rattle.tables.specs.View.{set_of, condition_of, or_nobody}
+use Rattle.deciding.specs.Masked.{down_of, in_test, whole_needs}
 use Rattle.deciding.proofs.Machine.{as_condition_lem}
 use Rattle.deciding.proofs.sets.condition.Goals as goal
 
 pub returns-in-Roles : goal.returns-in-Roles
-returns-in-Roles c =
+returns-in-Roles c whole =
     let m = c.args.masks.now in
-    c.worked.ensures
-    ∙ as_condition_lem m.seniors m.givers (roles_of c.args.roles) (omega (arith, m.ranked)) (set_of c.in-Roles.nodes)
-    ∙ ap (λ n. meets_test (down_of m.seniors) (roles_of c.args.roles) (condition_of n)) (sym c.in-Roles.is)
+    let row = roles_of c.args.roles in
+    c.worked.ensures (subst⁻¹ (λ ns. balanced 0 ns ≡ true) c.entries.ensures.all (subst (λ n. whole_needs n ≡ true) c.in-Roles.is whole))
+    ∙ ap (λ ns. in_test m.seniors m.givers None row (or_nobody (decode ns))) c.entries.ensures.all
+    ∙ as_condition_lem m.seniors m.givers row (omega (arith, m.ranked)) (set_of c.in-Roles.nodes)
+    ∙ ap (λ n. meets_test (down_of m.seniors) row (condition_of n)) (sym c.in-Roles.is)

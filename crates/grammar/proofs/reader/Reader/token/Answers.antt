@@ -1,47 +1,13 @@
-use Rattle.std.proofs.Common.{◌<◌, true, false, length, sym, refl, ap, ◌∙◌, arith}
-use Rattle.std.proofs.lemmas.List.{take_rest, drop_all}
-use Rattle.grammar.specs.Text.{is_letter, is_digit, run}
-use Rattle.grammar.proofs.Digits.{passes_here, cut_at}
+use Rattle.std.proofs.Common.{rules, sym, refl, ap, ◌∙◌}
+use Rattle.grammar.specs.Text.{is_digit, is_letter, run}
+use Rattle.grammar.proofs.Digits.{run_is, reads_word, reads_number, reads_sign, reads_end}
 use Rattle.grammar.proofs.reader.Reader.token.Goals as goal
+use Rattle.grammar.proofs.reader.Reader.token.Goals.{in-Some, in-Some-2, in-Some-3, in-None}
 
-pub returns-then-self : goal.returns-then-self
-returns-then-self c =
-    let e = drop_all c.args.self.now.place c.args.self.now.text.now (omega arith) in
-    record { text = refl; read = (e, e); line = (refl, refl) }
-
-pub returns-then-letter : goal.returns-then-letter
-returns-then-letter c =
-    let h : c.args.self.now.place < length c.args.self.now.text.now = omega (arith, c.args.self.now.within) in
-    record {
-      text = refl;
-      read = (
-        passes_here _ _ is_letter true h (sym c.letter.ensures ∙ c.if-letter.true),
-        cut_at _ _ _ _ (c.letters-n.ensures.whole ∙ ap (run is_letter) (take_rest c.args.self.now.text.now c.args.self.now.place)),
-      );
-      line = (refl, refl);
-    }
-
-pub returns-then-digit : goal.returns-then-digit
-returns-then-digit c =
-    let h : c.args.self.now.place < length c.args.self.now.text.now = omega (arith, c.args.self.now.within) in
-    record {
-      text = refl;
-      read = (
-        passes_here _ _ is_digit true h (sym c.digit.ensures ∙ c.if-digit.true),
-        cut_at _ _ _ _ (c.digits-n.ensures.whole ∙ ap (run is_digit) (take_rest c.args.self.now.text.now c.args.self.now.place)),
-      );
-      line = (refl, refl);
-    }
-
-pub returns-else-digit : goal.returns-else-digit
-returns-else-digit c =
-    let h : c.args.self.now.place < length c.args.self.now.text.now = omega (arith, c.args.self.now.within) in
-    record {
-      text = refl;
-      read = (
-        passes_here _ _ is_letter false h (sym c.letter.ensures ∙ c.if-letter.false),
-        passes_here _ _ is_digit false h (sym c.digit.ensures ∙ c.if-digit.false),
-        cut_at c.args.self.now.text.now c.args.self.now.place 1 1 refl,
-      );
-      line = (refl, refl);
-    }
+pub returns-clause-read : goal.returns-clause-read
+returns-clause-read c = elim c.match-first.branch [
+  | in-Some w ↦ reads_word _ w.in-Some.b.now (search rules) _ _ _ w.self-is _ _ w.cut.ensures.parts w.part-is (search rules) (ap (run is_letter) (sym c.rest-left.ensures) ∙ run_is is_letter _ _ w.run_length.ensures.within w.run_length.ensures.each w.run_length.ensures.stops)
+  | in-Some-2 w ↦ reads_number _ w.in-Some.b.now (search rules) _ _ _ w.self-is _ _ w.cut-in-Some-2.ensures.parts w.part-is (search rules) (ap (run is_digit) (sym c.rest-left.ensures) ∙ run_is is_digit _ _ w.run_length-in-Some-2.ensures.within w.run_length-in-Some-2.ensures.each w.run_length-in-Some-2.ensures.stops)
+  | in-Some-3 w ↦ reads_sign _ w.in-Some.b.now (search rules) _ _ _ w.self-is _ _ w.cut-in-Some-3.ensures.parts w.part-is (search rules) (search rules) refl
+  | in-None w ↦ reads_end _ _ _ _ w.self-is w.part-is (search rules) refl
+]

@@ -1,18 +1,15 @@
-use Rattle.std.proofs.Common.{ap, arith}
+use Rattle.std.proofs.Common.{◌≡◌, ℕ, subst, rules, ap}
+use Rattle.std.proofs.lemmas.Fn.{fold_over, slice_gives, fronts}
 use Rattle.rbac.specs.Roles.{roles_of}
-use Rattle.tables.proofs.Looking.{row_more, rows_passed}
+use Rattle.tables.proofs.Listing.{any, any_joined}
+use Rattle.tables.proofs.Looking.{saying, rows_passed}
 use Rattle.tables.proofs.tables.Tables.assigned.Goals as goal
-
-pub loop-i-init : goal.loop-i-init
-loop-i-init c = ((λ r. ap (λ f. f r) c.empty-roles.ensures), (λ l. absurd (omega arith)), λ l. absurd (omega arith))
-
-pub loop-i-preserved : goal.loop-i-preserved
-loop-i-preserved c = (
-  row_more c.args.self.now.rows c.loop-i.i c.args.user.number (omega arith) (roles_of c.loop-i.roles) (roles_of c.roles_of.result) (roles_of c.union-roles.result) c.loop-i.invariant.0 c.roles_of.ensures.says c.union-roles.ensures,
-  (λ l. c.roles_of.ensures.user),
-  λ l. omega arith,
-)
 
 pub returns : goal.returns
 returns c =
-    rows_passed c.args.self.now c.loop-i.i c.args.user.number (c.loop-i.invariant.2 (omega arith)) (omega arith) (c.loop-i.invariant.1 (omega arith)) (roles_of c.loop-i.roles) c.loop-i.invariant.0
+    let u = c.args.user.number in
+    rows_passed c.args.self.now u (search rules) (roles_of c.fold.result)
+    (subst (λ rows. (r : ℕ) → roles_of c.fold.result r ≡ any (saying u) rows r) c.iter.ensures.rest
+    (fold_over fronts (λ y. y.now) _ (λ ys s. (r : ℕ) → roles_of s r ≡ any (saying u) ys r) _
+    (λ ys a x b f' j k. (any_joined (saying u) ys x.now (roles_of a) (roles_of b) j (search rules), search rules))
+    _ _ _ _ (slice_gives c.iter.result) (λ r. ap (λ f. f r) c.empty.ensures) c.fold.ensures.ran))
