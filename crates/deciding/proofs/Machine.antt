@@ -1,9 +1,9 @@
 -- A stack of bits answers as the set that the nodes say.
-use Rattle.std.proofs.Common.{◌≡◌, ℕ, zero, suc, ◌+◌, ◌*◌, ◌/◌, ◌%◌, ◌^◌, ◌<◌, ◌≤◌, min, max, Bool, true, false, cond, ◌&&◌, ◌||◌, T, eqb, List, [], ◌∷◌, length, get_or, take, drop, Some, None, Decides, Option, sym, refl, ap, ◌∙◌, subst, ap₂, ⊎_elim, pow-suc, add-one, arith}
+use Rattle.std.proofs.Common.{◌≡◌, ℕ, zero, suc, ◌+◌, ◌*◌, ◌/◌, ◌%◌, ◌^◌, ◌<◌, ◌≤◌, min, max, Bool, true, false, cond, ◌&&◌, ◌||◌, T, eqb, List, [], ◌∷◌, length, Some, None, Decides, Option, sym, refl, ap, ◌∙◌, subst, ap₂, ⊎_elim, pow-suc, add-one, arith}
 use Rattle.std.proofs.lemmas.List.{get_or_past}
 use Rattle.std.proofs.lemmas.Bool.Decides.{nat_tests}
 use Rattle.policy.specs.Tests.{some}
-use Rattle.policy.specs.Membership.{Role, Row}
+use Rattle.policy.specs.Membership.{Row}
 use Rattle.policy.specs.Sets.{UserSet, members, holders, only, nobody, union, intersection, as_condition}
 use Rattle.policy.specs.Delegation.{member_test, meets_test}
 use Rattle.policy.proofs.Tests.{agree, both, first, second, some_at, some_gives, as_true, as_test}
@@ -17,7 +17,7 @@ use Rattle.trees.specs.declared.nodes.Node.TheVariants.{Role as RoleNode, Permis
 use Rattle.trees.specs.Trees.{balanced, decoded, decode}
 use Rattle.trees.proofs.Whole.{balanced_whole, inverse}
 use Rattle.tables.specs.View.{or_nobody}
-use Rattle.deciding.specs.Masked.{down_of, is_one, has_given, leaf_says, in_test, pushed}
+use Rattle.deciding.specs.Masked.{down_of, leaf_says, in_test, pushed}
 
 -- what the nodes leave on a stack of bits
 abbrev pub bits : (Node → Bool) → List Node → ℕ → ℕ

@@ -3,7 +3,7 @@ use Rattle.std.specs.Prelude.{◌≡◌, ℕ, ◌*◌, ◌%◌, ◌<◌, Bool, t
 use Rattle.std.proofs.Common.{arith}
 use Rattle.steps.specs.Steps.{System, Facts, Lawful}
 use Rattle.policy.specs.Measures.{list_places}
-use Rattle.policy.specs.Membership.{User, Role}
+use Rattle.policy.specs.Membership.{Role}
 use Rattle.policy.specs.Rules.{Policy, Nth}
 use Rattle.policy.specs.Runs.{Change, adds, removes}
 use Rattle.policy.specs.Delegation.{member_test, row_at, rule_of, number_of, slot_of, role_of}

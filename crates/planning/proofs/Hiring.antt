@@ -1,8 +1,9 @@
 -- Somebody who is in neither of two short lists.
 use Rattle.std.proofs.Common.{◌≡◌, ℕ, ◌<◌, ◌≤◌, Bool, true, false, ◌||◌, T, eqb, List, [], ◌∷◌, ◌++◌, map, length, sym, refl, ap, subst, ap₂, ⊎_elim, eqb→eq, arith, length-append}
 use Rattle.std.proofs.lemmas.Bool.{both_ways}
+use Rattle.std.specs.List.{list_any}
 use Rattle.policy.specs.Tests.{listed}
-use lib.Facts.{yes_eqb}
+use Rattle.std.proofs.Math.Facts.{yes_eqb}
 use Rattle.policy.proofs.Tests.{agree, either, as_test, clash, listed_left, listed_right}
 use Rattle.policy.proofs.Room.{room}
 use Rattle.rbac.specs.declared.users.User.{User as AUser}
@@ -15,6 +16,9 @@ use Rattle.deciding.specs.declared.plan.Slot.{Slot}
 use Rattle.deciding.proofs.Viewing.{map_length}
 use Rattle.planning.specs.Seats.{seated}
 
+pub turned_round : (a b : ℕ) → eqb a b ≡ eqb b a
+turned_round a b = agree (eqb a b) (eqb b a) (λ h. yes_eqb (sym (eqb→eq a b h))) (λ h. yes_eqb (sym (eqb→eq b a h)))
+
 abbrev pub numbers : List AUser → List ℕ
 numbers xs = map (λ x. x.number) xs
 
@@ -26,12 +30,13 @@ names_listed (x ∷ xs) u = ap (λ b. eqb u x.number || b) (names_listed xs u)
 abbrev pub users_of : List Slot → List ℕ
 users_of slots = map (λ x. x.user.number) slots
 
-pub turned_round : (a b : ℕ) → eqb a b ≡ eqb b a
-turned_round a b = agree (eqb a b) (eqb b a) (λ h. yes_eqb (sym (eqb→eq a b h))) (λ h. yes_eqb (sym (eqb→eq b a h)))
-
 pub seated_listed : (slots : List Slot) (u : ℕ) → seated slots u ≡ listed (users_of slots) u
 seated_listed [] u = refl
 seated_listed (x ∷ xs) u = ap₂ ◌||◌ (turned_round x.user.number u) (seated_listed xs u)
+
+pub names_any : (xs : List AUser) (u : ℕ) → list_any (λ (x : AUser). eqb x.number u) xs ≡ names xs u
+names_any [] u = refl
+names_any (x ∷ xs) u = ap₂ ◌||◌ (turned_round x.number u) (names_any xs u)
 
 pub trusted_listed : (t : Tables) (u : ℕ) → T ((policy_of t).trusted u) → T (listed (numbers (entries t.trusted)) u)
 trusted_listed t u h = subst T (names_listed (entries t.trusted) u) (trusted_named t u h)

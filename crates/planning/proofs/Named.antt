@@ -1,5 +1,5 @@
 -- Users of rows in use, and users that nodes name.
-use Rattle.std.proofs.Common.{◌≡◌, ℕ, ◌+◌, ◌≤◌, false, eqb, List, [], ◌∷◌, length, sym, ◌∙◌, arith}
+use Rattle.std.proofs.Common.{◌≡◌, ℕ, ◌+◌, Bool, true, false, ◌||◌, eqb, List, [], ◌∷◌, length, sym, refl, ap, ◌∙◌, arith}
 use mathlib.Core.Path.{fun_ext}
 use Rattle.std.proofs.lemmas.Bool.{both_ways}
 use Rattle.policy.specs.Tests.{listed}
@@ -8,12 +8,33 @@ use Rattle.policy.specs.Rules.{Policy}
 use Rattle.policy.proofs.Tests.{deny, as_true, as_false}
 use Rattle.rbac.specs.Roles.{no_role}
 use Rattle.trees.specs.declared.nodes.Node.{Node}
+use Rattle.trees.specs.declared.nodes.Node.TheVariants.{Role, Permission, User, Nobody, Or, And}
 use Rattle.deciding.specs.declared.plan.Slot.{Slot}
 use Rattle.questions.specs.Naming.{users_in}
-use Rattle.questions.proofs.Names.{or_off, node_first, node_count}
 use Rattle.planning.specs.Seats.{seated, Held, Grown}
 use Rattle.planning.proofs.Hiring.{turned_round}
 use Rattle.planning.proofs.Seating.{grown_on, grown_as}
+
+or_off : (b : Bool) → (b || false) ≡ b
+or_off true = refl
+or_off false = refl
+
+-- a node, and those behind it
+node_first : (n : Node) (ns : List Node) (v : ℕ) → listed (users_in (n ∷ ns)) v ≡ (listed (users_in (n ∷ [])) v || listed (users_in ns) v)
+node_first (Role n) ns v = refl
+node_first (Permission n) ns v = refl
+node_first (User n) ns v = ap (λ b. b || listed (users_in ns) v) (sym (or_off (eqb v n)))
+node_first Nobody ns v = refl
+node_first Or ns v = refl
+node_first And ns v = refl
+
+pub node_count : (n : Node) (ns : List Node) → length (users_in (n ∷ ns)) ≡ length (users_in (n ∷ [])) + length (users_in ns)
+node_count (Role n) ns = omega arith
+node_count (Permission n) ns = omega arith
+node_count (User n) ns = omega arith
+node_count Nobody ns = omega arith
+node_count Or ns = omega arith
+node_count And ns = omega arith
 
 -- who has no slot has no role
 pub no_row : (s : State) (slots : List Slot) (u : ℕ) → Held s slots → seated slots u ≡ false → no_role ≡ s u

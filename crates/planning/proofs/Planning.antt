@@ -1,5 +1,5 @@
 -- What the plan's parts come to.
-use Rattle.std.proofs.Common.{◌≡◌, ℕ, ◌+◌, ◌<◌, ◌≤◌, Bool, true, false, ◌||◌, T, ◌⊎◌, List, [], ◌∷◌, ◌++◌, map, length, get_or, Decides, Result, Ok, Err, not, sym, refl, ap, ◌∙◌, subst, inl, inr, ⊎_elim, arith}
+use Rattle.std.proofs.Common.{◌≡◌, ℕ, ◌+◌, ◌<◌, ◌≤◌, Bool, true, false, ◌||◌, T, ◌⊎◌, List, [], ◌∷◌, ◌++◌, map, length, get_or, Decides, Result, Ok, Err, not, sym, refl, ap, ◌∙◌, subst, inl, inr, ⊎_elim, arith, length-append}
 use mathlib.Core.Path.{subst⁻¹}
 use Rattle.policy.specs.Tests.{listed}
 use Rattle.policy.specs.Membership.{State}
@@ -8,7 +8,6 @@ use Rattle.policy.specs.Sets.{Question}
 use Rattle.policy.specs.Bounds.{Holder, Measured}
 use Rattle.policy.specs.Hire.{named, names}
 use Rattle.policy.proofs.Tests.{either, or_left, or_right, as_true, as_test, listed_left, listed_right, listed_either}
-use Rattle.rbac.specs.declared.sets.RoleSet.{RoleSet}
 use Rattle.rbac.specs.declared.users.User.{User as AUser}
 use Rattle.hierarchy.specs.Edges.{no_roles}
 use Rattle.tables.specs.declared.entries.AssignEntry.{AssignEntry}
@@ -22,6 +21,13 @@ use Rattle.tables.specs.Rows.{row_at}
 use Rattle.rbac.specs.Roles.{roles_of}
 use Rattle.deciding.proofs.Viewing.{map_length}
 use Rattle.deciding.specs.declared.plan.Slot.{Slot}
+use Rattle.trees.specs.declared.nodes.Node.{Node}
+use Rattle.trees.specs.declared.tree.UserTree.{UserTree}
+use Rattle.tables.specs.View.{set_of}
+use Rattle.questions.specs.declared.inquiry.Inquiry.{Inquiry}
+use Rattle.questions.specs.Naming.{users_in}
+use Rattle.questions.proofs.Names.{nodes_name}
+use Rattle.questions.proofs.Making.{askable}
 use Rattle.planning.specs.Seats.{Seated, seated}
 use Rattle.planning.specs.Plans.{Planned}
 use Rattle.planning.proofs.Ranking.{small, edge_inside}
@@ -117,3 +123,14 @@ put_last n slots x (Err f) after l e = absurd (let full = e.1 in omega arith)
 -- who has a role keeps a slot while others get theirs
 pub still_held : (s : State) (a b : ℕ → Bool) (c : ℕ → Bool) → ((v : ℕ) → b v ≡ (a v || c v)) → ((u r : ℕ) → T (s u r) → T (a u)) → (u r : ℕ) → T (s u r) → T (b u)
 still_held s a b c e held u r h = subst⁻¹ T (e u) (or_left (a u) (c u) (held u r h))
+
+-- the users that a question's sides name
+pub sides_name : (x : UserTree) (ns : List Node) → ns ≡ entries x.nodes → users_in ns ≡ named (set_of x.nodes)
+sides_name x ns e = ap users_in e ∙ nodes_name x.nodes x.whole
+
+-- are few
+pub few_sides : (x : Inquiry) (a b : List Node) → a ≡ entries x.larger.nodes → b ≡ entries x.smaller.nodes → length (users_in a) + length (users_in b) ≤ 32
+few_sides x a b ea eb =
+    let larger = named (set_of x.larger.nodes) in
+    let smaller = named (set_of x.smaller.nodes) in
+    omega (arith, ap length (sides_name x.larger a ea), ap length (sides_name x.smaller b eb), length-append larger smaller, (askable x).few_named)

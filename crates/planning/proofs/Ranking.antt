@@ -7,7 +7,7 @@ use Rattle.std.proofs.lemmas.Bool.{cases_eq, cases_lt, both_ways}
 use Rattle.policy.specs.Membership.{Role, Permission, Senior, same, above}
 use Rattle.policy.proofs.Tests.{agree, both, first, second, either, or_left, or_right, as_true, as_test}
 use Rattle.rbac.specs.declared.sets.RoleSet.{RoleSet}
-use Rattle.rbac.specs.Roles.{roles_of, of_either}
+use Rattle.rbac.specs.Roles.{roles_of, of_either, no_role}
 use Rattle.rbac.proofs.Masks.{roles_none, roles_past}
 use Rattle.words.specs.Words.{with}
 use Rattle.hierarchy.specs.Edges.{edges_of, no_roles}
@@ -26,9 +26,6 @@ filled P xs i v d l before here j lt =
 
 pub small : (s : RoleSet) (k : ℕ) → T (roles_of s k) → k < 64
 small s k h = ⊎_elim (λ (l : k < 64). l) (λ (l : 64 ≤ k). absurd (subst T (roles_past s k l) h)) (cases_lt k 64)
-
-pub nothing : (s : RoleSet) → s.word ≡ 0 → (k : ℕ) → roles_of s k ≡ false
-nothing s e k = ap (λ w. roles_of (record { word = w }) k) e ∙ ap (λ f. f k) roles_none
 
 -- above: one role more is looked at
 module _ (below : List RoleSet) (r q : ℕ) (set' : RoleSet) (inv : (k : ℕ) → roles_of set' k ≡ (ltb k q && roles_of (get_or below k no_roles) r)) where
@@ -76,8 +73,8 @@ above_all below r q m full l inv k = ⊎_elim
 abbrev pub Given : RoleSet → List RoleSet → ℕ → ℕ → Type 0
 Given set' seniors n k = (r : ℕ) × (r < n) × T (roles_of set' r) × T (down_of seniors k r)
 
-pub given_none : (set' : RoleSet) (seniors : List RoleSet) (m : RoleSet) → m.word ≡ 0 → (k : ℕ) → Decides (roles_of m k) (Given set' seniors 0 k)
-given_none set' seniors m e k = ((λ h. absurd (both_ways (roles_of m k) (nothing m e k) h)), λ (r, l, x, y). absurd (omega arith))
+pub given_none : (set' : RoleSet) (seniors : List RoleSet) (m : RoleSet) → roles_of m ≡ no_role → (k : ℕ) → Decides (roles_of m k) (Given set' seniors 0 k)
+given_none set' seniors m e k = ((λ h. absurd (both_ways (roles_of m k) (ap (λ f. f k) e) h)), λ (r, l, x, y). absurd (omega arith))
 
 module _ (set' : RoleSet) (seniors : List RoleSet) (r : ℕ) (m : RoleSet) (inv : (k : ℕ) → Decides (roles_of m k) (Given set' seniors r k)) where
   more : (k : ℕ) → Given set' seniors r k → Given set' seniors (r + 1) k

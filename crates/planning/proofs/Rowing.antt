@@ -1,5 +1,5 @@
 -- What the rows of the tables say of the state.
-use Rattle.std.proofs.Common.{◌≡◌, ℕ, zero, suc, ◌+◌, ◌<◌, ◌≤◌, true, ◌&&◌, T, eqb, ltb, List, [], ◌∷◌, length, Decides, sym, subst, inl, inr, ⊎_elim, not-suc-le-zero, arith, eqb→eq, ltb→lt, lt→ltb}
+use Rattle.std.proofs.Common.{◌≡◌, ℕ, zero, suc, ◌<◌, ◌≤◌, true, ◌&&◌, T, eqb, ltb, List, [], ◌∷◌, length, Decides, sym, subst, inl, inr, ⊎_elim, not-suc-le-zero, arith, eqb→eq, ltb→lt, lt→ltb}
 use mathlib.Core.Path.{subst⁻¹, fun_ext}
 use lib.Dec.{eqb_refl}
 use Rattle.std.proofs.lemmas.Bool.{cases_eq, cases_lt}

@@ -1,14 +1,13 @@
 -- Users in slots: one more of them.
-use Rattle.std.proofs.Common.{◌≡◌, ℕ, zero, suc, ◌+◌, ◌<◌, ◌≤◌, Bool, true, false, not, ◌||◌, T, eqb, List, [], ◌∷◌, ◌++◌, length, get_or, sym, refl, ap, ◌∙◌, subst, inl, inr, ⊎_elim, not-suc-le-zero, arith, eqb→eq, length-append}
+use Rattle.std.proofs.Common.{◌≡◌, ℕ, suc, ◌+◌, ◌-◌, ◌<◌, ◌≤◌, Bool, true, false, not, ◌||◌, T, eqb, List, [], ◌∷◌, ◌++◌, length, get_or, sym, refl, ap, ◌∙◌, subst, inl, inr, ⊎_elim, not-suc-le-zero, arith, eqb→eq, length-append}
 use mathlib.Core.Path.{subst⁻¹}
-use Rattle.std.specs.List.{list_any}
 use lib.Dec.{eqb_refl}
 use Rattle.std.proofs.lemmas.List.{get_or_append_left, get_or-append_right}
 use Rattle.std.proofs.lemmas.List.Folds.{list_any-append, list_any_at}
 use Rattle.std.proofs.lemmas.Bool.{cases_eq, both_ways}
 use Rattle.policy.specs.Membership.{State}
 use Rattle.policy.specs.Rules.{Policy}
-use Rattle.policy.proofs.Tests.{agree, either, or_left, or_right, as_true, as_test}
+use Rattle.policy.proofs.Tests.{agree, either, or_left, as_true, as_test}
 use Rattle.rbac.specs.Roles.{roles_of}
 use Rattle.deciding.specs.declared.plan.Slot.{Slot}
 use Rattle.deciding.specs.Slots.{no_slot, slot_at, user_at}
@@ -35,7 +34,10 @@ module _ (slots : List Slot) (x : Slot) where
   old_slot i l = get_or_append_left slots (x ∷ []) no_slot i l
 
   pub new_slot : slot_at (slots ++ x ∷ []) (length slots) ≡ x
-  new_slot = get_or-append_right slots (x ∷ []) (length slots) (length slots) no_slot refl (omega arith) ∙ ap (λ n. get_or (x ∷ []) n no_slot) (omega arith)
+  new_slot = get_or-append_right slots (x ∷ []) (length slots) (length slots) no_slot refl (omega arith) ∙ ap (λ n. get_or (x ∷ []) n no_slot) at_front
+    where
+      at_front : length slots - length slots ≡ 0
+      at_front = omega arith
 
   pub more_seated : (v : ℕ) → seated (slots ++ x ∷ []) v ≡ (seated slots v || eqb x.user.number v)
   more_seated v = list_any-append (λ (y : Slot). eqb y.user.number v) slots (x ∷ []) ∙ ap (λ b. seated slots v || b) (or_off (eqb x.user.number v))
@@ -95,4 +97,13 @@ grown_as p s {slots} e le a = record {
   seats = a.seats;
   more = λ v. a.more v ∙ ap (λ x. seated slots v || x) (e v);
   few = omega (arith, a.few);
+}
+
+-- nobody has a slot yet
+pub nobody_seated : (p : Policy) (s : State) → Seated p s []
+nobody_seated p s = record {
+  distinct = λ i j l. absurd (not-suc-le-zero l);
+  inside = λ i l. absurd (not-suc-le-zero l);
+  rows = λ i l. absurd (not-suc-le-zero l);
+  free = λ i l. absurd (not-suc-le-zero l);
 }

@@ -1,5 +1,5 @@
 // A plan for a question.
-ghost use Rattle.std.specs.Prelude.{◌≡◌, ℕ, ◌+◌, ◌<◌, ◌≤◌, false, [], ◌∷◌, length, Decides};
+ghost use Rattle.std.specs.Prelude.{◌≡◌, ℕ, ◌+◌, ◌<◌, ◌≤◌, true, false, [], ◌∷◌, length, Decides};
 ghost use Rattle.policy.specs.Measures.{users, rows, tracked_users};
 ghost use Rattle.policy.specs.Tests.{listed};
 ghost use Rattle.policy.specs.Bounds.{Holder, Measured};
@@ -39,9 +39,11 @@ fn seat_row(tables: &Tables, row: Row, slots: &mut Bounded<Slot, TRACKED_USERS>)
     }
 }
 
-// Slots for all users with a row.
-fn seat_rows(tables: &Tables) -> Bounded<Slot, TRACKED_USERS>
-    requires { Apart tables.now }
+// Slots for all users with a row; these are the rows of the tables.
+fn seat_rows(tables: &Tables, list: &[Row]) -> Bounded<Slot, TRACKED_USERS>
+    requires same { list.now ≡ tables.now.rows }
+    requires all { length list.now ≡ rows }
+    requires apart { Apart tables.now }
     ensures seats { Seated (policy_of tables.now) (state_of tables.now) (entries result) }
     ensures rowed { (v : ℕ) → Decides (seated (entries result) v) (Holder (state_of tables.now) v) }
     ensures few { length (entries result) ≤ rows }
@@ -51,7 +53,7 @@ fn seat_rows(tables: &Tables) -> Bounded<Slot, TRACKED_USERS>
         roles: RoleSet::empty(),
         acts: false,
     });
-    for row in &tables.rows {
+    for row in list {
         seat_row(tables, *row, &mut slots);
     }
     slots
@@ -102,7 +104,7 @@ pub fn plan_of(board: &Valid, asked: &Inquiry) -> Plan
     ensures measured { Measured (policy_of board.now.tables) (state_of board.now.tables) }
 {
     let tables = &board.tables;
-    let mut slots = seat_rows(tables);
+    let mut slots = seat_rows(tables, &tables.rows);
     seat_named(tables, asked.larger.nodes.entries(), &mut slots);
     seat_named(tables, asked.smaller.nodes.entries(), &mut slots);
     let user = hire(tables, slots.entries());

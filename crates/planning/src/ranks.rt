@@ -76,8 +76,8 @@ fn givers(gives: &[RoleSet], seniors: &[RoleSet]) -> [RoleSet; PERMISSIONS]
     ensures says { (n k : ℕ) → n < permissions → Decides (down_of result k n) ((r : ℕ) × (r < roles) × T (roles_of (slice_index_or gives.now n no_roles) r) × T (down_of seniors.now k r)) }
 {
     let mut masks = [RoleSet::empty(); PERMISSIONS];
-    for (mask, set) in masks.iter_mut().zip(gives) {
-        *mask = givers_of(*set, seniors);
+    for (n, mask) in masks.iter_mut().enumerate() {
+        *mask = givers_of(gives[n], seniors);
     }
     masks
 }

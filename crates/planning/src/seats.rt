@@ -1,5 +1,6 @@
 // Users get slots, each of them one.
 ghost use Rattle.std.specs.Prelude.{◌≡◌, ℕ, ◌+◌, ◌<◌, ◌≤◌, false, length, ◌==◌};
+ghost use Rattle.std.specs.List.{list_any};
 ghost use Rattle.policy.specs.Measures.{users, tracked_users};
 ghost use Rattle.rbac.specs.Roles.{roles_of};
 ghost use Rattle.bounded.specs.Entries.{entries};
@@ -18,10 +19,19 @@ pub(crate) fn has_slot(slots: &[Slot], user: User) -> bool
     slots.iter().any(|slot| slot.user == user)
 }
 
-pub(crate) fn is_trusted(tables: &Tables, user: User) -> bool
-    ensures { result ≡ (policy_of tables.now).trusted user.number }
+// Whether a user of the list has the number, which is in range by its type.
+fn is_named(list: &[User], number: u16) -> bool
+    ensures is { result ≡ list_any (λ (x : _). x.number == number) list.now }
+    ensures inside { number < users }
 {
-    tables.trusted.entries().contains(&user)
+    list.iter().any(|user| user.number() == number)
+}
+
+pub(crate) fn is_trusted(tables: &Tables, user: User) -> bool
+    ensures is { result ≡ (policy_of tables.now).trusted user.number }
+    ensures inside { user.number < users }
+{
+    is_named(tables.trusted.entries(), user.number())
 }
 
 // Gives the user a slot, unless the user has one.
@@ -32,7 +42,7 @@ pub(crate) fn seat(
     roles: RoleSet,
 )
     requires room { length (entries slots.old) < tracked_users }
-    requires row { user.number < users → seated (entries slots.old) user.number ≡ false → roles_of roles ≡ state_of tables.now user.number }
+    requires row { seated (entries slots.old) user.number ≡ false → roles_of roles ≡ state_of tables.now user.number }
     ensures { Grown (policy_of tables.now) (state_of tables.now) (entries slots.old) (λ v. user.number == v) 1 (entries slots.new) }
 {
     if has_slot(slots.entries(), user) {

@@ -1,8 +1,7 @@
 -- Whether a question can be asked is decided, so what cannot be unaskable is askable.
-use Rattle.std.proofs.Common.{◌≡◌, ℕ, ◌+◌, ◌<◌, ◌≤◌, Bool, true, false, ◌&&◌, ◌||◌, T, leb, ◌⊎◌, length, Decides, sym, refl, ap, ◌∙◌, subst, ap₂, inl, inr, ⊎_elim, arith, length-append}
+use Rattle.std.proofs.Common.{◌≡◌, ℕ, ◌+◌, ◌<◌, ◌≤◌, true, T, ◌⊎◌, length, sym, ◌∙◌, ap₂, inl, inr, ⊎_elim, arith, length-append}
 use mathlib.Core.Path.{subst⁻¹}
-use Rattle.std.proofs.lemmas.Bool.{cases_lt, or_cases, and_parts, and_from, leb-true, le-leb, or_left as left_holds, or_right as right_holds}
-use Rattle.policy.specs.Membership.{User}
+use Rattle.std.proofs.lemmas.Bool.{cases_lt}
 use Rattle.policy.specs.Sets.{UserSet, members, holders, only, nobody, union, intersection, Question, Static, SemiStatic}
 use Rattle.policy.specs.Hire.{named, names}
 use Rattle.policy.specs.Tests.{listed}
@@ -50,20 +49,16 @@ module _ (a b : Nodes) (wa : balanced 0 (nodes_of a) ≡ true) (wb : balanced 0 
   many = length-append (named (set_of a)) (named (set_of b)) ∙ sym (ap₂ (λ xs ys. length xs + length ys) (nodes_name a wa) (nodes_name b wb))
 
   -- what the checks find
-  pub asked_told : (sa sb : Bool) (m n : ℕ) → Decides sa (Static (set_of a)) → Decides sb (Static (set_of b)) → m ≡ length (users_in (nodes_of a)) → n ≡ length (users_in (nodes_of b))
-      → AllInside (users_in (nodes_of a)) → AllInside (users_in (nodes_of b)) → Decides ((sa || sb) && leb (m + n) 32) (Askable (question_of a b))
-  asked_told sa sb m n da db ma nb ia ib = (
-    (λ e.
-        let (semi, small) = and_parts (sa || sb) (leb (m + n) 32) e in
-        record {
-          is_semi_static = ⊎_elim (λ (h : sa ≡ true). inl (da.0 h)) (λ (h : sb ≡ true). inr (db.0 h)) (or_cases sa sb semi);
-          few_named = let l = leb-true (m + n) 32 small in omega (arith, many, ma, nb);
-          named_inside = λ u h. ⊎_elim
-              (λ (t : T (listed (named (set_of a)) u)). ia u (subst⁻¹ (λ xs. T (listed xs u)) (nodes_name a wa) t))
-              (λ (t : T (listed (named (set_of b)) u)). ib u (subst⁻¹ (λ xs. T (listed xs u)) (nodes_name b wb) t))
-              (listed_either (named (set_of a)) (named (set_of b)) u h);
-        }),
-    λ k. and_from (sa || sb) (leb (m + n) 32)
-        (⊎_elim (λ (h : Static (set_of a)). left_holds sa sb (da.1 h)) (λ (h : Static (set_of b)). right_holds sa sb (db.1 h)) k.is_semi_static)
-        (le-leb (m + n) 32 (let few = k.few_named in omega (arith, many, ma, nb))),
-  )
+  pub asked_told : (m n : ℕ) → SemiStatic (question_of a b) → m ≡ length (users_in (nodes_of a)) → n ≡ length (users_in (nodes_of b)) → AllInside (users_in (nodes_of a)) → AllInside (users_in (nodes_of b))
+      → m + n ≤ 32 → Askable (question_of a b)
+  asked_told m n semi ma nb ia ib few = record {
+    is_semi_static = semi;
+    few_named = omega (arith, many, ma, nb);
+    named_inside = λ u h. ⊎_elim
+        (λ (t : T (listed (named (set_of a)) u)). ia u (subst⁻¹ (λ xs. T (listed xs u)) (nodes_name a wa) t))
+        (λ (t : T (listed (named (set_of b)) u)). ib u (subst⁻¹ (λ xs. T (listed xs u)) (nodes_name b wb) t))
+        (listed_either (named (set_of a)) (named (set_of b)) u h);
+  }
+
+  pub few_told : (m n : ℕ) → m ≡ length (users_in (nodes_of a)) → n ≡ length (users_in (nodes_of b)) → Askable (question_of a b) → m + n ≤ 32
+  few_told m n ma nb k = let few = k.few_named in omega (arith, many, ma, nb)

@@ -1,21 +1,20 @@
 -- The users that a set's nodes name are those that the set names.
-use Rattle.std.proofs.Common.{◌≡◌, ℕ, ◌+◌, ◌<◌, ◌≤◌, Bool, true, false, ◌||◌, T, eqb, ◌⊎◌, List, [], ◌∷◌, ◌++◌, length, get_or, take, drop, Some, sym, refl, ap, ◌∙◌, subst, ap₂, inl, inr, ⊎_elim, arith}
-use Rattle.std.proofs.lemmas.List.{drop_more, drop_all, length-take-le, get_or-take}
+use Rattle.std.proofs.Common.{◌≡◌, ◌<◌, ◌≤◌, Bool, true, false, T, eqb, suc, ltb, List, [], ◌∷◌, ◌++◌, length, filter, cond, ltb-true, eqb→eq, Some, sym, refl, ap, ◌∙◌, ap₂, ⊎_elim, arith}
+use mathlib.Core.Path.{subst⁻¹}
 use Rattle.policy.specs.Tests.{listed}
 use Rattle.policy.specs.Sets.{UserSet, members, holders, only, nobody, union, intersection}
 use Rattle.policy.specs.Hire.{named}
 use Rattle.policy.proofs.Tests.{either}
 use Rattle.trees.specs.declared.nodes.Node.{Node}
 use Rattle.trees.specs.declared.nodes.Node.TheVariants.{Role, Permission, User, Nobody, Or, And}
-use Rattle.trees.specs.Reading.{Nodes, postfix}
-use Rattle.trees.specs.Reading.{listed as nodes_of}
+use Rattle.trees.specs.Reading.{Nodes, postfix, listed as nodes_of}
 use Rattle.trees.specs.Trees.{balanced, decode}
 use Rattle.trees.proofs.Whole.{balanced_whole, inverse}
 use Rattle.tables.specs.View.{set_of, or_nobody}
-use Rattle.questions.specs.Naming.{users_in, AllInside}
+use Rattle.questions.specs.Naming.{users_in, is_named, is_inside, AllInside}
 
 -- as many as nodes name a user
-pub users_counted : (ns : List Node) → length (users_in ns) ≡ count_by is_named ns
+pub users_counted : (ns : List Node) → length (filter is_named ns) ≡ length (users_in ns)
 users_counted [] = refl
 users_counted (Role n ∷ ns) = users_counted ns
 users_counted (Permission n ∷ ns) = users_counted ns
@@ -24,9 +23,38 @@ users_counted (Nobody ∷ ns) = users_counted ns
 users_counted (Or ∷ ns) = users_counted ns
 users_counted (And ∷ ns) = users_counted ns
 
--- and where each of these is a user there is, so is each that is named
-pub all_inside : (ns : List Node) → count_by is_named ns ≡ count_by is_inside ns → AllInside (users_in ns)
-all_inside ns same = ?
+-- what passes one test and maybe another
+one_more : (b : Bool) (n : Node) (xs ys : List Node) → length xs ≤ length ys → length (cond b (n ∷ xs) xs) ≤ suc (length ys)
+one_more true n xs ys l = omega arith
+one_more false n xs ys l = omega arith
+
+both_passed : (b : Bool) (n : Node) (xs ys : List Node) → length xs ≤ length ys → suc (length ys) ≡ length (cond b (n ∷ xs) xs) → (b ≡ true) × (length ys ≡ length xs)
+both_passed true n xs ys l e = (refl, omega arith)
+both_passed false n xs ys l e = absurd (omega arith)
+
+no_more : (ns : List Node) → length (filter is_inside ns) ≤ length (filter is_named ns)
+no_more [] = omega arith
+no_more (Role n ∷ ns) = no_more ns
+no_more (Permission n ∷ ns) = no_more ns
+no_more (User u ∷ ns) = one_more (ltb u 65536) (User u) (filter is_inside ns) (filter is_named ns) (no_more ns)
+no_more (Nobody ∷ ns) = no_more ns
+no_more (Or ∷ ns) = no_more ns
+no_more (And ∷ ns) = no_more ns
+
+-- where as many nodes name a user there is as name a user, each that is named is one
+pub all_inside : (ns : List Node) → length (filter is_named ns) ≡ length (filter is_inside ns) → AllInside (users_in ns)
+all_inside [] same = λ u h. absurd h
+all_inside (Role n ∷ ns) same = all_inside ns same
+all_inside (Permission n ∷ ns) same = all_inside ns same
+all_inside (User v ∷ ns) same = λ u h.
+    let (small, rest) = both_passed (ltb v 65536) (User v) (filter is_inside ns) (filter is_named ns) (no_more ns) same in
+    ⊎_elim
+    (λ (t : T (eqb u v)). subst⁻¹ (λ k. k < 65536) (eqb→eq u v t) (ltb-true v 65536 small))
+    (λ (t : T (listed (users_in ns) u)). all_inside ns rest u t)
+    (either (eqb u v) (listed (users_in ns) u) h)
+all_inside (Nobody ∷ ns) same = all_inside ns same
+all_inside (Or ∷ ns) same = all_inside ns same
+all_inside (And ∷ ns) same = all_inside ns same
 
 -- the users that a set's nodes name are those that the set names
 users_join : (xs ys : List Node) → users_in (xs ++ ys) ≡ users_in xs ++ users_in ys

@@ -6,8 +6,7 @@ use Rattle.std.proofs.lemmas.List.Folds.{list_all-append}
 use Rattle.policy.specs.Sets.{UserSet, members, holders, only, nobody, union, intersection, Static}
 use Rattle.trees.specs.declared.nodes.Node.{Node}
 use Rattle.trees.specs.declared.nodes.Node.TheVariants.{Or, And}
-use Rattle.trees.specs.Reading.{Nodes, postfix}
-use Rattle.trees.specs.Reading.{listed as nodes_of}
+use Rattle.trees.specs.Reading.{Nodes, postfix, listed as nodes_of}
 use Rattle.trees.specs.Trees.{balanced, decode}
 use Rattle.trees.proofs.Whole.{balanced_whole, inverse}
 use Rattle.tables.specs.View.{set_of, or_nobody}
@@ -43,10 +42,10 @@ static_still nobody h = refl
 static_still (union x y) h = two_parts x y Or refl ∙ ap₂ ◌&&◌ (static_still x h.0) (static_still y h.1)
 static_still (intersection x y) h = two_parts x y And refl ∙ ap₂ ◌&&◌ (static_still x h.0) (static_still y h.1)
 
-pub static_told : (n : Nodes) → balanced 0 (nodes_of n) ≡ true → (r : Bool) → r ≡ all_still (nodes_of n) → Decides r (Static (set_of n))
-static_told n w r is = (
-  (λ e. subst⁻¹ Static set_is (still_static x (ap all_still (sym nodes_are) ∙ sym is ∙ e))),
-  λ h. is ∙ ap all_still nodes_are ∙ static_still x (subst Static set_is h),
+pub static_told : (n : Nodes) → balanced 0 (nodes_of n) ≡ true → (r : Bool) (ns : List Node) → ns ≡ nodes_of n → r ≡ all_still ns → Decides r (Static (set_of n))
+static_told n w r ns read is = (
+  (λ e. subst⁻¹ Static set_is (still_static x (ap all_still (sym (read ∙ nodes_are)) ∙ sym is ∙ e))),
+  λ h. is ∙ ap all_still (read ∙ nodes_are) ∙ static_still x (subst Static set_is h),
 )
   where
     x : UserSet

@@ -1,5 +1,5 @@
 -- The users that nodes name.
-use Rattle.std.specs.Prelude.{ℕ, Bool, true, false, T, List, [], ◌∷◌, nat_lt}
+use Rattle.std.specs.Prelude.{Bool, true, false, T, List, [], ◌∷◌, nat_lt}
 use Rattle.policy.specs.Measures.{users}
 use Rattle.policy.specs.Membership.{User, IsUser}
 use Rattle.policy.specs.Tests.{listed}

@@ -2,7 +2,7 @@
 ghost use Rattle.std.specs.Prelude.{◌≡◌, Decides};
 ghost use Rattle.policy.specs.Sets.{Static};
 ghost use Rattle.tables.specs.View.{set_of};
-ghost use Rattle.questions.specs.Statics.{still};
+ghost use Rattle.questions.specs.Statics.{still, all_still};
 
 use trees::{Node, UserTree};
 
@@ -12,8 +12,14 @@ fn is_still(node: Node) -> bool
     !matches!(node, Node::Role(_) | Node::Permission(_))
 }
 
+fn all_still(nodes: &[Node]) -> bool
+    ensures { result ≡ all_still nodes.now }
+{
+    nodes.iter().all(|node| is_still(*node))
+}
+
 pub(crate) fn is_static(set: &UserTree) -> bool
     ensures { Decides result (Static (set_of set.now.nodes)) }
 {
-    set.nodes.entries().iter().all(|node| is_still(*node))
+    all_still(set.nodes.entries())
 }

@@ -13,7 +13,7 @@ use Rattle.policy.specs.declared.terms.Side.{Side}
 use Rattle.policy.specs.declared.terms.Place.{Place}
 use Rattle.policy.specs.declared.terms.Place.TheVariants.{Floor, Top}
 use Rattle.deciding.specs.declared.runs.RunStep.{RunStep}
-use Rattle.deciding.specs.declared.plan.Plan.{Plan}
+use Rattle.deciding.specs.declared.plan.Slot.{Slot}
 use Rattle.planning.specs.Seats.{seated}
 use Rattle.verdicts.specs.Looking.{changes}
 
@@ -23,9 +23,9 @@ adds_to Floor = false
 adds_to Top = true
 
 -- the first n places are such a run to this place, by and to users who have slots
-pub record Candidate (p : Policy) (s : State) (q : Question) (plan : Plan) (place : Place) (n : ℕ) (list : List RunStep) : Type 0 where
+pub record Candidate (p : Policy) (s : State) (q : Question) (slots : List Slot) (place : Place) (n : ℕ) (list : List RunStep) : Type 0 where
   pub few : n ≤ list_places
   pub lawful : Run (moves p) s (changes (adds_to place) (take n list))
   pub one_way : OnlyAdds (changes (adds_to place) (take n list)) ⊎ OnlyRemoves (changes (adds_to place) (take n list))
-  pub names : Each (λ u. T (seated plan.users plan.len u)) (changes (adds_to place) (take n list))
+  pub names : Each (λ u. T (seated slots u)) (changes (adds_to place) (take n list))
   pub decided : (kind : Kind) (fixed : Side) → VerdictExact kind fixed place → Static (side fixed q) → Asked kind p s q ↔ Holds p (end s (changes (adds_to place) (take n list))) q

@@ -1,5 +1,5 @@
 -- A question at the slots, and a run of plain steps as changes.
-use Rattle.std.specs.Prelude.{◌≡◌, ℕ, suc, ◌<◌, ◌≤◌, Bool, true, false, cond, not, ◌||◌, T, List, [], ◌∷◌, map, take, Some, None, Option, ◌==◌, slice_index, slice_index_or}
+use Rattle.std.specs.Prelude.{◌≡◌, ℕ, suc, ◌<◌, ◌≤◌, Bool, true, false, cond, not, ◌||◌, T, List, [], ◌∷◌, length, map, take, Some, None, Option, ◌==◌, slice_index}
 use Rattle.steps.specs.Steps.{count}
 use Rattle.policy.specs.Membership.{User, Role, Row, State}
 use Rattle.policy.specs.Rules.{Policy}
@@ -11,9 +11,10 @@ use Rattle.rbac.specs.Roles.{roles_of, without}
 use Rattle.words.specs.Words.{with}
 use Rattle.rbac.proofs.Masks.{of}
 use Rattle.deciding.specs.declared.runs.RunStep.{RunStep}
-use Rattle.deciding.specs.declared.plan.Plan.{Plan}
+use Rattle.deciding.specs.declared.plan.Slot.{Slot}
+use Rattle.deciding.specs.Slots.{slot_at, user_at}
 use Rattle.deciding.specs.Masked.{in_test}
-use Rattle.deciding.specs.Delegates.{no_user, user_at, adding, removing}
+use Rattle.deciding.specs.Delegates.{adding, removing}
 use Rattle.planning.specs.Seats.{seated}
 
 -- the roles in a slot of the work table
@@ -24,17 +25,17 @@ word_row ws i = roles_of (of (slice_index ws i))
 abbrev pub passed : List RoleSet → List RoleSet → Question → AUser → Row → Bool
 passed seniors givers q u row = not (in_test seniors givers (Some u) row q.smaller) || in_test seniors givers (Some u) row q.larger
 
--- how many of the first slots do not pass
-abbrev pub fails : List RoleSet → List RoleSet → Question → List AUser → List ℕ → ℕ → Bool
-fails seniors givers q list ws i = not (passed seniors givers q (slice_index_or list i no_user) (word_row ws i))
+-- how many of the slots do not pass
+abbrev pub fails : List RoleSet → List RoleSet → Question → List Slot → List ℕ → ℕ → Bool
+fails seniors givers q slots ws i = not (passed seniors givers q (slot_at slots i).user (word_row ws i))
 
-abbrev pub failing : List RoleSet → List RoleSet → Question → List AUser → List ℕ → ℕ → ℕ
-failing seniors givers q list ws len = count (fails seniors givers q list ws) len
+abbrev pub failing : List RoleSet → List RoleSet → Question → List Slot → List ℕ → ℕ
+failing seniors givers q slots ws = count (fails seniors givers q slots ws) (length slots)
 
 -- the words are the rows of a state in which nobody without a slot has a role
-pub record Says (list : List AUser) (len : ℕ) (ws : List ℕ) (t : State) : Type 0 where
-  pub rows : (i : ℕ) → i < len → word_row ws i ≡ t (user_at list i)
-  pub others : (u : User) (r : Role) → T (t u r) → T (seated list len u)
+pub record Says (slots : List Slot) (ws : List ℕ) (t : State) : Type 0 where
+  pub rows : (i : ℕ) → i < length slots → word_row ws i ≡ t (user_at slots i)
+  pub others : (u : User) (r : Role) → T (t u r) → T (seated slots u)
 
 -- the question is true, or false, as sought
 abbrev pub Sought : Bool → Policy → Question → State → Type 0
@@ -58,15 +59,12 @@ turned false row r = without row r
 abbrev pub one : Bool → ℕ
 one b = cond b 1 0
 
--- after so many of the first n steps what is sought is so and not before; or it is not so after any number of them
-abbrev pub FoundAt : Bool → Policy → State → Question → Bool → List RunStep → ℕ → Option ℕ → Type 0
-FoundAt sought p s q adds run n (Some m) = (m ≤ n) × Sought sought p q (end s (changes adds (take m run))) × ((j : ℕ) → j < m → Sought sought p q (end s (changes adds (take j run))) → ⊥)
-FoundAt sought p s q adds run n None = (j : ℕ) → j ≤ n → Sought sought p q (end s (changes adds (take j run))) → ⊥
+-- after so many steps of the run what is sought is so and not before; or it is not so after any number of them
+abbrev pub FoundAt : Bool → Policy → State → Question → Bool → List RunStep → Option ℕ → Type 0
+FoundAt sought p s q adds run (Some m) = (m ≤ length run) × Sought sought p q (end s (changes adds (take m run))) × ((j : ℕ) → j < m → Sought sought p q (end s (changes adds (take j run))) → ⊥)
+FoundAt sought p s q adds run None = (j : ℕ) → j ≤ length run → Sought sought p q (end s (changes adds (take j run))) → ⊥
 
--- the place of a user in a list, and the slot of a user
-abbrev pub place : List AUser → ℕ → ℕ
+-- the number of a user's slot
+abbrev pub place : List Slot → User → ℕ
 place [] u = 0
-place (x ∷ xs) u = cond (u == x.number) 0 (suc (place xs u))
-
-abbrev pub slot_in : Plan → User → ℕ
-slot_in plan u = place (take plan.len plan.users) u
+place (x ∷ xs) u = cond (x.user.number == u) 0 (suc (place xs u))

@@ -1,26 +1,27 @@
 -- What a question is decided from.
-use Rattle.std.specs.Prelude.{ℕ, T, List, [], ◌∷◌}
+use Rattle.std.specs.Prelude.{T, List, [], ◌∷◌}
 use Rattle.policy.specs.Membership.{State}
 use Rattle.policy.specs.Rules.{Policy}
 use Rattle.policy.specs.Sets.{Question, SemiStatic}
 use Rattle.policy.specs.Regimes.{Regular}
 use Rattle.policy.specs.Bounds.{Measured}
 use Rattle.deciding.specs.declared.runs.RunStep.{RunStep}
+use Rattle.deciding.specs.declared.plan.Slot.{Slot}
 use Rattle.deciding.specs.declared.plan.Plan.{Plan}
-use Rattle.rbac.specs.declared.users.User.{User as AUser}
+use Rattle.deciding.specs.Slots.{slots_of}
 use Rattle.planning.specs.Plans.{Planned}
 use Rattle.planning.specs.Ranks.{Ranked}
 use Rattle.planning.specs.Seats.{seated}
 
 -- a plan for a question with a static side, on a board within its measures
 pub record Ready (p : Policy) (s : State) (q : Question) (plan : Plan) : Type 0 where
-  pub planned : Planned p s q plan.users plan.roles plan.acts plan.len
+  pub planned : Planned p s q (slots_of plan)
   pub ranked : Ranked p plan.masks.seniors plan.masks.givers
   pub measured : Measured p s
   pub regular : Regular p s
   pub semi : SemiStatic q
 
 -- each step is made on a user who has a slot
-abbrev pub Sitting : List AUser → ℕ → List RunStep → Type 0
-Sitting list len [] = Unit {0}
-Sitting list len (x ∷ xs) = T (seated list len x.user.number) × Sitting list len xs
+abbrev pub Sitting : List Slot → List RunStep → Type 0
+Sitting slots [] = Unit {0}
+Sitting slots (x ∷ xs) = T (seated slots x.user.number) × Sitting slots xs

@@ -1,5 +1,5 @@
 -- The run that takes all that can be taken, slot by slot and role by role.
-use Rattle.std.specs.Prelude.{◌≡◌, ℕ, ◌+◌, ◌*◌, ◌<◌, ◌≤◌, false, not, ◌&&◌, T, List, take, Some, None, Option, nat_lt}
+use Rattle.std.specs.Prelude.{◌≡◌, ℕ, ◌+◌, ◌*◌, ◌<◌, ◌≤◌, false, not, ◌&&◌, T, List, length, take, Some, None, Option, nat_lt}
 use Rattle.policy.specs.Measures.{roles}
 use Rattle.policy.specs.Membership.{Role, State}
 use Rattle.policy.specs.Rules.{Policy, RevokeRule, Nth}
@@ -8,38 +8,37 @@ use Rattle.policy.specs.Reach.{revocable}
 use Rattle.policy.specs.Bounds.{Holder}
 use Rattle.policy.specs.Hire.{OnlyRemoves, Each}
 use Rattle.deciding.specs.declared.runs.RunStep.{RunStep}
-use Rattle.deciding.specs.declared.plan.Plan.{Plan}
-use Rattle.deciding.specs.Delegates.{user_at}
-use Rattle.verdicts.specs.Looking.{changes}
+use Rattle.deciding.specs.declared.plan.Slot.{Slot}
+use Rattle.deciding.specs.Slots.{user_at}
 use Rattle.verdicts.specs.Ready.{Sitting}
-use Rattle.verdicts.specs.Looking.{slot_in}
+use Rattle.verdicts.specs.Looking.{changes, place}
 
 -- a step that takes the role of the slot's user, by an actor to whom the rule's administering role is assigned; or the role is not there, or no rule has it as target
-pub record Takes (p : Policy) (s : State) (plan : Plan) (slot : ℕ) (r : Role) (x : RunStep) : Type 0 where
-  pub there : T (s (user_at plan.users slot) r)
+pub record Takes (p : Policy) (s : State) (slots : List Slot) (slot : ℕ) (r : Role) (x : RunStep) : Type 0 where
+  pub there : T (s (user_at slots slot) r)
   pub rule : RevokeRule
   pub numbered : Nth x.rule rule p.revokes
   pub target : T (rule.targets r)
   pub actor : ℕ
-  pub actor_slot : actor < plan.len
-  pub actor_is : x.actor.number ≡ user_at plan.users actor
-  pub administers : T (s (user_at plan.users actor) rule.admin)
-  pub user_is : x.user.number ≡ user_at plan.users slot
+  pub actor_slot : actor < length slots
+  pub actor_is : x.actor.number ≡ user_at slots actor
+  pub administers : T (s (user_at slots actor) rule.admin)
+  pub user_is : x.user.number ≡ user_at slots slot
   pub role_is : x.role.number ≡ r
 
-abbrev pub Taken : Policy → State → Plan → ℕ → Role → Option RunStep → Type 0
-Taken p s plan slot r (Some x) = Takes p s plan slot r x
-Taken p s plan slot r None = (s (user_at plan.users slot) r && revocable p.revokes r) ≡ false
+abbrev pub Taken : Policy → State → List Slot → ℕ → Role → Option RunStep → Type 0
+Taken p s slots slot r (Some x) = Takes p s slots slot r x
+Taken p s slots slot r None = (s (user_at slots slot) r && revocable p.revokes r) ≡ false
 
 -- what is left when all facts below n that can be taken are taken
-abbrev pub lowered : Policy → State → Plan → ℕ → State
-lowered p s plan n = λ u r. s u r && not (revocable p.revokes r && nat_lt (roles * slot_in plan u + r) n)
+abbrev pub lowered : Policy → State → List Slot → ℕ → State
+lowered p s slots n = λ u r. s u r && not (revocable p.revokes r && nat_lt (roles * place slots u + r) n)
 
 -- the first n places are a run that takes all that can be taken of the facts below f
-pub record Stripped (p : Policy) (s : State) (plan : Plan) (f n : ℕ) (list : List RunStep) : Type 0 where
+pub record Stripped (p : Policy) (s : State) (slots : List Slot) (f n : ℕ) (list : List RunStep) : Type 0 where
   pub few : n ≤ f
   pub lawful : Run (moves p) s (changes false (take n list))
   pub removing : OnlyRemoves (changes false (take n list))
   pub rowed : Each (Holder s) (changes false (take n list))
-  pub sitting : Sitting plan.users plan.len (take n list)
-  pub ends : end s (changes false (take n list)) ≡ lowered p s plan f
+  pub sitting : Sitting slots (take n list)
+  pub ends : end s (changes false (take n list)) ≡ lowered p s slots f

@@ -1,6 +1,7 @@
 -- What a verdict promises.
-use Rattle.std.specs.Prelude.{◌≡◌, ℕ, ◌<◌, ◌≤◌, Bool, true, false, List, length, take, drop, Ok, Err, Decides, MatchBool, Result}
+use Rattle.std.specs.Prelude.{◌≡◌, ℕ, ◌<◌, ◌≤◌, Bool, true, false, List, length, take, drop, Ok, Err, Decides, MatchOption, Result}
 use Rattle.std.specs.Bool.{beq}
+use Rattle.std.specs.Option.{is_some}
 use Rattle.steps.specs.declared.short.TooShort.{TooShort}
 use Rattle.steps.specs.declared.short.TooShort.TheVariants.{Words, Places}
 use Rattle.policy.specs.Measures.{list_places, work_words}
@@ -21,13 +22,12 @@ abbrev pub sought_by : Kind → Bool
 sought_by Possible = true
 sought_by Necessary = false
 
--- yes just where the question holds; where a run shows it, the run stands in the first places and the others are as they were; else all are
+-- yes just where the question holds; a run shows it just where it can be shown, and then stands in the first places and the others are as they were; else all are
 pub record Decided (kind : Kind) (p : Policy) (s : State) (q : Question) (list : List RunStep) (v : Verdict) (after : List RunStep) : Type 0 where
   pub exact : Decides v.yes (Asked kind p s q)
-  pub shown : v.shown ≡ beq v.yes (sought_by kind)
-  pub run : MatchBool v.shown
-      (Shows (moves p) s q (Sought (sought_by kind) p q) list_places (changes v.adds (take v.steps after)) × (drop v.steps after ≡ drop v.steps list))
-      (after ≡ list)
+  pub shown : is_some v.run ≡ beq v.yes (sought_by kind)
+  pub run : MatchOption v.run (after ≡ list)
+      (λ x. Shows (moves p) s q (Sought (sought_by kind) p q) list_places (changes x.adds (take x.steps after)) × (drop x.steps after ≡ drop x.steps list))
 
 -- decided where list and work table are long enough; else one of them was too short, and the list is as it was
 abbrev pub Settled : Kind → Policy → State → Question → ℕ → List RunStep → Result Verdict TooShort → List RunStep → Type 0

@@ -1,7 +1,7 @@
 // Questions decided, and the runs that show the verdicts.
 #![tactic(auto)]
 
-mod asking;
+mod case;
 mod lowest;
 mod replay;
 mod revoker;
@@ -12,5 +12,5 @@ mod verdict;
 mod work;
 
 pub use settle::decide;
-pub use verdict::Verdict;
+pub use verdict::{Shown, Verdict};
 pub use work::Work;

@@ -1,7 +1,7 @@
 // Deciding a question.
-ghost use Rattle.std.specs.Prelude.{◌≡◌, ℕ, ◌<◌, ◌≤◌, Bool, true, false, length, take, drop, Ok, Err, slice_index};
+ghost use Rattle.std.specs.Prelude.{◌≡◌, ℕ, ◌≤◌, length, slice_index};
 ghost use Rattle.policy.specs.Measures.{tracked_users, list_places};
-ghost use Rattle.tables.specs.Entries.{entries};
+ghost use Rattle.bounded.specs.Entries.{entries};
 ghost use Rattle.tables.specs.View.{policy_of, state_of};
 ghost use Rattle.questions.specs.Inquired.{inquired};
 ghost use Rattle.deciding.specs.Delegates.{AllWhole};
@@ -9,18 +9,17 @@ ghost use Rattle.verdicts.specs.Ready.{Ready};
 ghost use Rattle.verdicts.specs.Candidates.{adds_to};
 ghost use Rattle.verdicts.specs.Verdict.{sought_by, Decided, Settled};
 
-use crate::replay::first_shown;
-use crate::runners::{fill, run_to};
-use crate::verdict::Verdict;
+use crate::case::Case;
+use crate::runners::fill;
+use crate::verdict::{Shown, Verdict};
 use crate::work::Work;
-use deciding::{Plan, RunStep};
+use deciding::RunStep;
 use planning::plan_of;
 use policy::{Kind, LIST_PLACES, Place, WORK_WORDS, decided_at};
 use questions::Inquiry;
 use rbac::{Role, User};
 use soundness::Valid;
 use steps::TooShort;
-use tables::Tables;
 
 // The truth value that a run can show.
 fn sought(kind: Kind) -> bool
@@ -44,68 +43,44 @@ fn adds_to(place: Place) -> bool
 
 // Fills the places of a list before anything stands there.
 fn blank() -> RunStep {
-    match (User::new(0), Role::new(0)) {
-        (Some(user), Some(role)) => RunStep {
-            actor: user,
-            user,
-            role,
-            rule: 0,
-        },
-        _ => unreachable(),
+    let user = User::from(0);
+    RunStep {
+        actor: user,
+        user,
+        role: Role::modulo(0),
+        rule: 0,
     }
 }
 
-// Copies the first n places.
-fn copy(from: &[RunStep], n: usize, to: &mut [RunStep])
-    requires from { n ≤ length from.now }
-    requires to { n ≤ length to.old }
-    ensures copied { take n to.new ≡ take n from.now }
-    ensures rest { drop n to.new ≡ drop n to.old }
-{
-    for i in 0..n {
-        to[i] = from[i];
-    }
-}
-
-// Decides the question with tables that are long enough.
-fn decide_in(
-    tables: &Tables,
-    asked: &Inquiry,
-    plan: &Plan,
-    list: &mut [RunStep],
-    work: &mut [u64],
-) -> Verdict
-    requires ready { Ready (policy_of tables.now) (state_of tables.now) (inquired asked.now) plan.now }
-    requires whole { AllWhole (entries tables.now.assigns) }
-    requires places { list_places ≤ length list.old }
-    requires room { tracked_users ≤ length work.old }
-    ensures { Decided asked.now.kind (policy_of tables.now) (state_of tables.now) (inquired asked.now) list.old result list.new }
-{
-    let larger = &asked.larger;
-    let smaller = &asked.smaller;
-    let place = decided_at(asked.kind, asked.fixed_side());
-    let adds = adds_to(place);
-    let sought = sought(asked.kind);
-    let mut run = [blank(); LIST_PLACES];
-    fill(work, plan);
-    let n = run_to(place, tables, larger, smaller, plan, &mut run, work);
-    fill(work, plan);
-    match first_shown(tables, plan, larger, smaller, &run, n, adds, sought, work) {
-        Some(steps) => {
-            copy(&run, steps, list);
-            Verdict {
-                yes: sought,
-                shown: true,
-                adds,
-                steps,
+impl Case<'_> {
+    // Decides the question with tables that are long enough.
+    fn decide_in(&self, list: &mut [RunStep], work: &mut [u64]) -> Verdict
+        requires ready { Ready (policy_of self.now.tables.now) (state_of self.now.tables.now) (inquired self.now.asked.now) self.now.plan.now }
+        requires whole { AllWhole (entries self.now.tables.now.assigns) }
+        requires places { list_places ≤ length list.old }
+        requires room { tracked_users ≤ length work.old }
+        ensures { Decided self.now.asked.now.kind (policy_of self.now.tables.now) (state_of self.now.tables.now) (inquired self.now.asked.now) list.old result list.new }
+    {
+        let place = decided_at(self.asked.kind, self.asked.fixed_side());
+        let adds = adds_to(place);
+        let sought = sought(self.asked.kind);
+        let mut run = [blank(); LIST_PLACES];
+        fill(work, self.slots());
+        let n = self.run_to(place, &mut run, work);
+        fill(work, self.slots());
+        match self.first_shown(&run[..n], adds, sought, work) {
+            Some(steps) => {
+                list[..steps].copy_from_slice(&run[..steps]);
+                Verdict {
+                    yes: sought,
+                    run: Some(Shown { adds, steps }),
+                }
             }
+            None => Verdict {
+                yes: !sought,
+                run: None,
+            },
         }
-        None => Verdict {
-            yes: !sought,
-            shown: false,
-            adds,
-            steps: 0,
-        },
     }
 }
 
@@ -126,6 +101,10 @@ pub fn decide(
     if list.len() < LIST_PLACES {
         return Err(TooShort::Places);
     }
-    let plan = plan_of(board, asked);
-    Ok(decide_in(&board.tables, asked, &plan, list, guard.words))
+    let case = Case {
+        tables: &board.tables,
+        asked,
+        plan: &plan_of(board, asked),
+    };
+    Ok(case.decide_in(list, guard.words))
 }

@@ -1,10 +1,15 @@
 // What a question is answered with.
 
-// Yes or no; and where a run shows it, that it is shown, whether its steps add or remove, and how many there are.
-#[derive(Clone, Copy)]
-pub struct Verdict {
-    pub yes: bool,
-    pub shown: bool,
+// A run that shows the answer: whether its steps add or remove, and how many there are.
+#[derive(Clone, Copy, PartialEq, Eq, Debug)]
+pub struct Shown {
     pub adds: bool,
     pub steps: usize,
+}
+
+// Yes or no; and the run that shows it, where one does.
+#[derive(Clone, Copy, PartialEq, Eq, Debug)]
+pub struct Verdict {
+    pub yes: bool,
+    pub run: Option<Shown>,
 }

@@ -18,7 +18,5 @@ impl Drop for Work<'_> {
 fn wipe(words: &mut [u64])
     ensures { (k : ℕ) → slice_index words.new k ≡ 0 }
 {
-    for x in words.iter_mut() {
-        *x = 0;
-    }
+    words.fill(0);
 }

@@ -1,4 +1,4 @@
-use Rattle.std.proofs.Common.{length, sym, ap, ◌∙◌, rules}
+use Rattle.std.proofs.Common.{rules}
 use Rattle.deciding.proofs.Viewing.{rules_are}
 use Rattle.deciding.proofs.delegating.rules.Goals as goal
 

@@ -1,10 +1,7 @@
-use Rattle.std.proofs.Common.{◌≡◌, ℕ, ◌<◌, ◌≤◌, true, ◌||◌, length}
-use Rattle.tables.specs.Entries.{entries}
+use Rattle.std.proofs.Common.{◌≡◌, ℕ, ◌<◌, true, ◌||◌}
 use Rattle.tables.specs.View.{policy_of}
 use Rattle.planning.specs.Seats.{seated}
 use Rattle.planning.proofs.plans.hire.Given as goal
 
 abbrev pub invariant-loop-number : goal.invariant-loop-number
-invariant-loop-number l =
-    ((k : ℕ) → k < l.number → (seated l.list l.len k || (policy_of l.tables).trusted k) ≡ true)
-    × (0 < l.number → length (entries l.tables.trusted) ≤ 32)
+invariant-loop-number l = (k : ℕ) → k < l.number → (seated l.slots k || (policy_of l.tables).trusted k) ≡ true

@@ -1,60 +1,44 @@
-use Rattle.std.proofs.Common.{◌≡◌, ◌+◌, ◌≤◌, ◌||◌, [], ◌∷◌, length, get_or, take, drop, sym, ap, ◌∙◌, arith}
+use Rattle.std.proofs.Common.{◌≡◌, ◌+◌, [], ◌∷◌, length, get_or, drop, ap, arith}
+use mathlib.Core.Path.{subst⁻¹}
+use Rattle.std.proofs.lemmas.List.{drop_more, drop_all}
 use Rattle.policy.specs.Tests.{listed}
-use Rattle.policy.proofs.Tests.{as_true, as_test}
+use Rattle.bounded.specs.Entries.{entries}
 use Rattle.trees.specs.declared.nodes.Node.TheVariants.{Role}
+use Rattle.tables.specs.View.{policy_of, state_of}
 use Rattle.questions.specs.Naming.{users_in}
-use Rattle.planning.specs.Seats.{seated}
-use Rattle.questions.proofs.Names.{next_node, no_node, node_count, or_off}
-use Rattle.planning.proofs.Named.{node_shift}
+use Rattle.planning.specs.Seats.{seated, Grown}
+use Rattle.planning.proofs.Seating.{grown_none}
+use Rattle.planning.proofs.Named.{node_count, named_on}
+use Rattle.planning.proofs.Planning.{still_held}
 use Rattle.planning.proofs.plans.seat_named.Goals as goal
 
-pub seat_node-requires : goal.seat_node-requires
-seat_node-requires c =
-    let at = c.args.set.now.nodes.at in
-    let len = c.args.set.now.nodes.len in
-    let i = c.loop-i.i in
-    let n = get_or at i (Role 0) in
-    let short : len ≤ length at = omega (arith, c.args.set.now.nodes.full, c.args.set.now.nodes.ok) in
-    let e : length (users_in (drop i (take len at))) ≡ length (users_in (n ∷ [])) + length (users_in (drop (i + 1) (take len at))) =
-    ap (λ ns. length (users_in ns)) (next_node at len i (Role 0) short c.loop-i-test.true) ∙ node_count n (drop (i + 1) (take len at)) in
-    record {
-      room = omega (arith, c.loop-i.invariant.1, c.requires.room);
-      before = c.loop-i.invariant.0;
-      held = λ u r h. as_test (seated c.loop-i.plan.users c.loop-i.plan.len u) (c.loop-i.invariant.3 u (as_true (seated c.args.plan.now.users c.args.plan.now.len u) (c.requires.held u r h)));
-    }
+pub seat_node-requires-clause-room : goal.seat_node-requires-clause-room
+seat_node-requires-clause-room c =
+    let ns = c.args.nodes.now in
+    let i = c.loop-node.node-index in
+    let n = get_or ns i (Role 0) in
+    let here : length (users_in (drop i ns)) ≡ length (users_in (n ∷ drop (i + 1) ns)) = ap (λ l. length (users_in l)) (drop_more ns i (Role 0) c.loop-node-test.true) in
+    omega (arith, c.loop-node.invariant.0, c.requires.room, node_count n (drop (i + 1) ns))
 
-pub loop-i-preserved : goal.loop-i-preserved
-loop-i-preserved c =
-    let at = c.args.set.now.nodes.at in
-    let len = c.args.set.now.nodes.len in
-    let i = c.loop-i.i in
-    let n = get_or at i (Role 0) in
-    let rest = drop (i + 1) (take len at) in
-    let x = c.loop-i.plan in
-    let y = c.seat_node.new.plan in
-    let short : len ≤ length at = omega (arith, c.args.set.now.nodes.full, c.args.set.now.nodes.ok) in
-    let here = next_node at len i (Role 0) short c.loop-i-test.true in
-    let e : length (users_in (drop i (take len at))) ≡ length (users_in (n ∷ [])) + length (users_in rest) =
-    ap (λ ns. length (users_in ns)) here ∙ node_count n rest in (
-      c.seat_node.ensures.after,
-      omega (arith, c.loop-i.invariant.1, c.seat_node.ensures.few),
-      (λ v. node_shift n rest v (seated y.users y.len v) (seated x.users x.len v) (c.seat_node.ensures.more v)
-          ∙ ap (λ ns. seated x.users x.len v || listed (users_in ns) v) (sym here) ∙ c.loop-i.invariant.2 v),
-      (λ v h. c.seat_node.ensures.more v ∙ ap (λ b. b || listed (users_in (n ∷ [])) v) (c.loop-i.invariant.3 v h)),
-      c.seat_node.ensures.masks ∙ c.loop-i.invariant.4,
+pub loop-node-preserved : goal.loop-node-preserved
+loop-node-preserved c =
+    let p = policy_of c.args.tables.now in
+    let s = state_of c.args.tables.now in
+    let ns = c.args.nodes.now in
+    let i = c.loop-node.node-index in
+    let n = get_or ns i (Role 0) in
+    let at = drop_more ns i (Role 0) c.loop-node-test.true in
+    let here : length (users_in (drop i ns)) ≡ length (users_in (n ∷ drop (i + 1) ns)) = ap (λ l. length (users_in l)) at in (
+      omega (arith, c.loop-node.invariant.0, c.seat_node.ensures.few, node_count n (drop (i + 1) ns)),
+      still_held s (seated (entries c.loop-node.slots)) (seated (entries c.seat_node.new.slots)) (listed (users_in (n ∷ []))) c.seat_node.ensures.more c.loop-node.invariant.1,
+      (λ after grown. c.loop-node.invariant.2 after (subst⁻¹ (λ l. Grown p s (entries c.loop-node.slots) (listed (users_in l)) (length (users_in l)) after) at
+          (named_on p s n (drop (i + 1) ns) c.seat_node.ensures grown))),
     )
 
 pub returns : goal.returns
 returns c =
-    let at = c.args.set.now.nodes.at in
-    let len = c.args.set.now.nodes.len in
-    let x = c.loop-i.plan in
-    let short : len ≤ length at = omega (arith, c.args.set.now.nodes.full, c.args.set.now.nodes.ok) in
-    let none = no_node at len c.loop-i.i short c.loop-i-test.false in
-    let e : length (users_in (drop c.loop-i.i (take len at))) ≡ 0 = ap (λ ns. length (users_in ns)) none in
-    record {
-      after = c.loop-i.invariant.0;
-      more = λ v. sym (or_off (seated x.users x.len v)) ∙ ap (λ ns. seated x.users x.len v || listed (users_in ns) v) (sym none) ∙ c.loop-i.invariant.2 v;
-      few = omega (arith, c.loop-i.invariant.1);
-      masks = c.loop-i.invariant.4;
-    }
+    let p = policy_of c.args.tables.now in
+    let s = state_of c.args.tables.now in
+    let slots = entries c.loop-node.slots in
+    c.loop-node.invariant.2 slots (subst⁻¹ (λ l. Grown p s slots (listed (users_in l)) (length (users_in l)) slots) (drop_all c.loop-node.node-index c.args.nodes.now (omega (arith, c.loop-node-test.false)))
+    (grown_none p s slots (listed []) 0 (λ v h. absurd h)))

@@ -1,16 +1,19 @@
-use Rattle.std.proofs.Common.{◌≡◌, ℕ, ◌+◌, ◌≤◌, true, ◌||◌, length, drop}
+use Rattle.std.proofs.Common.{◌+◌, ◌≤◌, List, length, drop}
 use Rattle.policy.specs.Tests.{listed}
-use Rattle.trees.specs.Reading.{listed as nodes_of}
+use Rattle.bounded.specs.Entries.{entries}
 use Rattle.tables.specs.View.{state_of, policy_of}
 use Rattle.questions.specs.Naming.{users_in}
-use Rattle.planning.specs.Seats.{Seated, seated}
+use Rattle.deciding.specs.declared.plan.Slot.{Slot}
+use Rattle.planning.specs.Seats.{Held, Grown}
 use Rattle.planning.proofs.plans.seat_named.Given as goal
 
-abbrev pub invariant-loop-i : goal.invariant-loop-i
-invariant-loop-i l =
-    Seated (policy_of l.tables) (state_of l.tables) l.plan.users l.plan.roles l.plan.acts l.plan.len
-    × (l.plan.len + length (users_in (drop l.i (nodes_of l.set.nodes))) ≤ l.initial.plan.len + length (users_in (nodes_of l.set.nodes)))
-    × ((v : ℕ) → (seated l.plan.users l.plan.len v || listed (users_in (drop l.i (nodes_of l.set.nodes))) v)
-    ≡ (seated l.initial.plan.users l.initial.plan.len v || listed (users_in (nodes_of l.set.nodes)) v))
-    × ((v : ℕ) → seated l.initial.plan.users l.initial.plan.len v ≡ true → seated l.plan.users l.plan.len v ≡ true)
-    × (l.plan.masks ≡ l.initial.plan.masks)
+-- what giving slots to those left would come to, giving slots to all comes to
+abbrev pub invariant-loop-node : goal.invariant-loop-node
+invariant-loop-node l =
+    let p = policy_of l.tables in
+    let s = state_of l.tables in
+    let left = users_in (drop l.node-index l.nodes) in
+    let all = users_in l.nodes in
+    (length (entries l.slots) + length left ≤ length (entries l.initial.slots) + length all)
+    × Held s (entries l.slots)
+    × ((after : List Slot) → Grown p s (entries l.slots) (listed left) (length left) after → Grown p s (entries l.initial.slots) (listed all) (length all) after)

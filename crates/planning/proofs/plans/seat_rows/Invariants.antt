@@ -1,12 +1,10 @@
-use Rattle.std.proofs.Common.{◌≡◌, ℕ, ◌≤◌, Decides}
+use Rattle.std.proofs.Common.{[], take}
+use Rattle.std.specs.List.{list_any}
+use Rattle.bounded.specs.Entries.{entries}
 use Rattle.tables.specs.View.{state_of, policy_of}
-use Rattle.planning.specs.Seats.{Seated, seated}
-use Rattle.planning.proofs.Rowing.{Rowed}
+use Rattle.tables.specs.Rows.{is_of}
+use Rattle.planning.specs.Seats.{Grown}
 use Rattle.planning.proofs.plans.seat_rows.Given as goal
 
-abbrev pub invariant-loop-i : goal.invariant-loop-i
-invariant-loop-i l =
-    Seated (policy_of l.tables) (state_of l.tables) l.plan.users l.plan.roles l.plan.acts l.plan.len
-    × (l.plan.len ≤ l.i)
-    × ((v : ℕ) → Decides (seated l.plan.users l.plan.len v) (Rowed l.list l.i v))
-    × (l.plan.masks ≡ l.initial.plan.masks)
+abbrev pub invariant-loop-row : goal.invariant-loop-row
+invariant-loop-row l = Grown (policy_of l.tables) (state_of l.tables) [] (λ v. list_any (is_of v) (take l.row-index l.list)) l.row-index (entries l.slots)

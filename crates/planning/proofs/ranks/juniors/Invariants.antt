@@ -5,4 +5,4 @@ use Rattle.hierarchy.specs.Edges.{edges_of, no_roles}
 use Rattle.planning.proofs.ranks.juniors.Given as goal
 
 abbrev pub invariant-loop-q : goal.invariant-loop-q
-invariant-loop-q l = (length l.below ≡ 64) × ((q : ℕ) → q < l.q → (r : ℕ) → Decides (roles_of (get_or l.below q no_roles) r) (Senior (edges_of l.hierarchy) q r))
+invariant-loop-q l = (length l.set-items ≡ 64) × ((q : ℕ) → q < l.q → (r : ℕ) → Decides (roles_of (get_or l.set-items q no_roles) r) (Senior (edges_of l.hierarchy) q r))

@@ -4,4 +4,4 @@ use Rattle.hierarchy.specs.Edges.{no_roles}
 use Rattle.planning.proofs.ranks.seniors.Given as goal
 
 abbrev pub invariant-loop-r : goal.invariant-loop-r
-invariant-loop-r l = (length l.masks ≡ 64) × ((r : ℕ) → r < l.r → (k : ℕ) → roles_of (get_or l.masks r no_roles) k ≡ roles_of (get_or l.below k no_roles) r)
+invariant-loop-r l = (length l.mask-items ≡ 64) × ((r : ℕ) → r < l.r → (k : ℕ) → roles_of (get_or l.mask-items r no_roles) k ≡ roles_of (get_or l.below k no_roles) r)

@@ -1,4 +1,4 @@
-use Rattle.std.proofs.Common.{◌+◌, ◌/◌, length, get_or, refl, subst, arith, rules}
+use Rattle.std.proofs.Common.{length, get_or, refl, subst, rules}
 use Rattle.words.specs.Words.{bits}
 use Rattle.policy.specs.Delegation.{slot_of}
 use Rattle.rbac.proofs.Masks.{of}

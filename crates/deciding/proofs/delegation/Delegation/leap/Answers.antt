@@ -1,4 +1,4 @@
-use Rattle.std.proofs.Common.{◌<◌, ◌+◌, ◌*◌, ◌/◌, ◌%◌, ◌^◌, not, ◌||◌, length, sym, ap, ◌∙◌, ap₂, subst, arith, rules}
+use Rattle.std.proofs.Common.{not, ◌||◌, length, sym, ap, ◌∙◌, ap₂, subst, rules}
 use Rattle.rbac.specs.Roles.{roles_of}
 use Rattle.tables.specs.View.{policy_of, assign_of}
 use Rattle.words.specs.Words.{bits}

@@ -1,0 +1,67 @@
+// A question of a board, at the slots of its plan.
+ghost use Rattle.std.specs.Prelude.{◌≡◌, ◌<◌, T, length};
+ghost use Rattle.rbac.specs.Roles.{roles_of};
+ghost use Rattle.bounded.specs.Entries.{entries};
+ghost use Rattle.questions.specs.Inquired.{inquired};
+ghost use Rattle.deciding.specs.Slots.{slots_of, user_at};
+ghost use Rattle.planning.specs.Seats.{seated};
+ghost use Rattle.verdicts.specs.Looking.{passed, failing as failing_count};
+
+use deciding::{Plan, Slot, in_set};
+use questions::Inquiry;
+use rbac::{RoleSet, User};
+use tables::Tables;
+use words::word;
+
+// What every part of the deciding is lent. That the plan is made for this question of these tables is no proposition to the checker,
+// since it names the slot of the hire; so it cannot be a fact of the type, and the parts that need it ask for it.
+#[derive(Clone, Copy)]
+pub(crate) struct Case<'a> {
+    pub tables: &'a Tables,
+    pub asked: &'a Inquiry,
+    pub plan: &'a Plan,
+}
+
+impl<'a> Case<'a> {
+    pub(crate) fn slots(&self) -> &'a [Slot]
+        ensures { result.now ≡ slots_of self.now.plan.now }
+    {
+        self.plan.slots.entries()
+    }
+
+    // Whether the user, with these roles, is not in the smaller set, or is in the larger.
+    pub(crate) fn passes(&self, user: User, roles: RoleSet) -> bool
+        ensures { result ≡ passed self.now.plan.now.masks.seniors self.now.plan.now.masks.givers (inquired self.now.asked.now) user (roles_of roles) }
+    {
+        let masks = &self.plan.masks;
+        if in_set(&self.asked.smaller, masks, user, roles) {
+            return in_set(&self.asked.larger, masks, user, roles);
+        }
+        true
+    }
+
+    // How many slots do not pass.
+    pub(crate) fn failing(&self, work: &[u64]) -> usize
+        ensures { result ≡ failing_count self.now.plan.now.masks.seniors self.now.plan.now.masks.givers (inquired self.now.asked.now) (slots_of self.now.plan.now) work.now }
+    {
+        let mut fails = 0;
+        for (i, slot) in self.slots().iter().enumerate() {
+            if !self.passes(slot.user, RoleSet::from_word(word(work, i))) {
+                fails += 1;
+            }
+        }
+        fails
+    }
+
+    // The slot of a user who has one.
+    pub(crate) fn slot_of(&self, user: User) -> usize
+        requires { T (seated (slots_of self.now.plan.now) user.number) }
+        ensures below { result < length (slots_of self.now.plan.now) }
+        ensures is { user_at (slots_of self.now.plan.now) result ≡ user.number }
+    {
+        match self.slots().iter().position(|slot| slot.user == user) {
+            Some(slot) => slot,
+            None => unreachable(),
+        }
+    }
+}
