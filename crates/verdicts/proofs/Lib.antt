@@ -4,6 +4,5 @@ pub mod Turning
 pub mod Ruling
 pub mod Stripping
 pub mod Candidates
-pub mod Copying
 pub mod Settling
 pub mod Concluding

@@ -1,24 +1,41 @@
 -- The first revoke rule with a target.
-use Rattle.std.proofs.Common.{◌≡◌, ℕ, zero, suc, ◌<◌, min, false, ◌||◌, List, [], ◌∷◌, map, length, get_or, take, refl, ap₂, not-suc-le-zero, arith}
-use Rattle.policy.specs.Rules.{Nth, first, later}
+use Rattle.std.proofs.Common.{◌≡◌, ℕ, zero, suc, ◌+◌, ◌<◌, Bool, true, false, cond, ◌||◌, T, Some, None, List, [], ◌∷◌, map, length, get_or, position, sym, refl, ap, ◌∙◌, subst, not-suc-le-zero, add-one, arith}
+use Rattle.std.specs.List.{position_from}
+use Rattle.std.proofs.lemmas.List.Quantifiers.{position-Some}
+use Rattle.std.proofs.lemmas.Iterator.Adapters.{position_from-zero}
+use Rattle.policy.specs.Rules.{RevokeRule, Nth, first, later}
 use Rattle.policy.specs.Reach.{revocable}
+use Rattle.policy.proofs.Tests.{as_test}
 use Rattle.rbac.specs.Roles.{roles_of}
 use Rattle.tables.specs.declared.entries.RevokeEntry.{RevokeEntry}
 use Rattle.tables.specs.View.{revoke_of}
 
-pub rule_at : (n : ℕ) (xs : List RevokeEntry) (k : ℕ) (d : RevokeEntry) → k < n → k < length xs → Nth (suc k) (revoke_of (get_or xs k d)) (map revoke_of (take n xs))
-rule_at n [] k d l m = absurd (not-suc-le-zero m)
-rule_at zero (x ∷ xs) k d l m = absurd (not-suc-le-zero l)
-rule_at (suc n) (x ∷ xs) zero d l m = first
-rule_at (suc n) (x ∷ xs) (suc k) d l m = later (rule_at n xs k d (omega arith) (omega arith))
+abbrev pub has_target : ℕ → RevokeEntry → Bool
+has_target r x = roles_of x.targets r
 
-pub no_rule_lem : (n : ℕ) (xs : List RevokeEntry) (r : ℕ) → ((j : ℕ) → j < min n (length xs) → (d : RevokeEntry) → roles_of (get_or xs j d).targets r ≡ false) → revocable (map revoke_of (take n xs)) r ≡ false
-no_rule_lem zero xs r h = refl
-no_rule_lem (suc n) [] r h = refl
-no_rule_lem (suc n) (x ∷ xs) r h = ap₂ ◌||◌ (h 0 (omega arith) x) (no_rule_lem n xs r (λ j l d. h (suc j) (omega arith) d))
+rule_at : (xs : List RevokeEntry) (k : ℕ) (d : RevokeEntry) → k < length xs → Nth (suc k) (revoke_of (get_or xs k d)) (map revoke_of xs)
+rule_at [] k d l = absurd (not-suc-le-zero l)
+rule_at (x ∷ xs) zero d l = first
+rule_at (x ∷ xs) (suc k) d l = later (rule_at xs k d (omega arith))
 
--- within the list the default does not matter
-pub any_default : {A : Type 0} (xs : List A) (k : ℕ) (d e : A) → k < length xs → get_or xs k d ≡ get_or xs k e
-any_default [] k d e l = absurd (not-suc-le-zero l)
-any_default (x ∷ xs) zero d e l = refl
-any_default (x ∷ xs) (suc k) d e l = any_default xs k d e (omega arith)
+-- the rule that was found, by its number
+pub ruled : (xs : List RevokeEntry) (r k : ℕ) (x : RevokeEntry) → position (has_target r) xs ≡ Some k → x ≡ get_or xs k x → (rule : RevokeRule) × Nth (k + 1) rule (map revoke_of xs) × T (rule.targets r) × (rule.admin ≡ x.admin.number)
+ruled xs r k x e is =
+    let (l, t, before) = position-Some (has_target r) xs k x e in (
+      revoke_of x,
+      subst (λ (y : RevokeEntry). Nth (k + 1) (revoke_of y) (map revoke_of xs)) (sym is) (subst (λ m. Nth m (revoke_of (get_or xs k x)) (map revoke_of xs)) (sym (add-one k)) (rule_at xs k x l)),
+      as_test (has_target r x) (ap (has_target r) is ∙ t),
+      refl,
+    )
+
+none_from : (i : ℕ) (xs : List RevokeEntry) (r : ℕ) → position_from (has_target r) i xs ≡ None → revocable (map revoke_of xs) r ≡ false
+none_from i [] r e = refl
+none_from i (x ∷ xs) r e = go (has_target r x) e (none_from (i + 1) xs r)
+  where
+    go : (b : Bool) → cond b (Some i) (position_from (has_target r) (i + 1) xs) ≡ None → (position_from (has_target r) (i + 1) xs ≡ None → revocable (map revoke_of xs) r ≡ false) → (b || revocable (map revoke_of xs) r) ≡ false
+    go true e rest = cc
+    go false e rest = rest e
+
+-- none was
+pub unruled : (xs : List RevokeEntry) (r : ℕ) → position (has_target r) xs ≡ None → revocable (map revoke_of xs) r ≡ false
+unruled xs r e = none_from 0 xs r (sym (position_from-zero (has_target r) xs) ∙ e)

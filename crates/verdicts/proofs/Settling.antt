@@ -1,45 +1,39 @@
 -- What was found decides the question, and the run shows it.
-use Rattle.std.proofs.Common.{◌≡◌, ℕ, zero, suc, ◌<◌, ◌≤◌, Bool, true, false, not, ◌&&◌, T, ◌⊎◌, ◌↔◌, List, [], ◌∷◌, ◌++◌, length, get_or, take, Decides, sym, refl, ap, ◌∙◌, subst, ap₂, inl, inr, ⊎_elim, not-suc-le-zero, arith}
-use mathlib.Core.Path.{subst⁻¹}
+use Rattle.std.proofs.Common.{◌≡◌, ℕ, zero, suc, ◌<◌, ◌≤◌, Bool, true, false, not, T, ◌⊎◌, ◌↔◌, List, [], ◌∷◌, length, get_or, take, Decides, refl, ap, ◌∙◌, subst, inl, inr, ⊎_elim, not-suc-le-zero, arith}
 use mathlib.Core.Bool.{beq}
 use mathlib.Core.Logic.{⊎_map}
 use Rattle.std.proofs.lemmas.Bool.{both_ways}
 use Rattle.policy.specs.Tests.{listed}
 use Rattle.policy.specs.Membership.{User, State}
 use Rattle.policy.specs.Rules.{Policy}
-use Rattle.policy.specs.Sets.{UserSet, members, holders, only, nobody, union, intersection, Question, Holds, Static, SemiStatic}
+use Rattle.policy.specs.Sets.{Question, Holds}
 use Rattle.policy.specs.Runs.{Change, adds, removes, after, Moves, moves, Run, end}
 use Rattle.policy.specs.Bounds.{Holder, Measured}
 use Rattle.policy.specs.Hire.{names, OnlyAdds, OnlyRemoves, Each}
 use Rattle.policy.specs.Verdicts.{Shows}
-use Rattle.policy.specs.Terms.{Asked, side}
+use Rattle.policy.specs.Terms.{Asked}
 use Rattle.policy.specs.declared.terms.Kind.{Kind}
 use Rattle.policy.specs.declared.terms.Kind.TheVariants.{Possible, Necessary}
 use Rattle.policy.specs.declared.terms.Place.{Place}
 use Rattle.policy.proofs.Deciding.{holds?}
 use Rattle.policy.proofs.Tests.{as_true}
 use Rattle.rbac.specs.Roles.{roles_of}
-use Rattle.hierarchy.specs.Edges.{no_roles}
-use Rattle.trees.specs.declared.nodes.Node.{Node}
-use Rattle.trees.specs.declared.nodes.Node.TheVariants.{Or, And}
-use Rattle.trees.specs.Reading.{Nodes}
-use Rattle.trees.specs.Reading.{postfix}
 use Rattle.trees.specs.Reading.{listed as nodes_of}
-use Rattle.trees.specs.Trees.{balanced, decode}
-use Rattle.trees.proofs.Whole.{balanced_whole, whole_balanced, inverse}
+use Rattle.trees.proofs.Whole.{whole_balanced}
 use Rattle.tables.specs.declared.entries.Needs.{Needs}
 use Rattle.tables.specs.declared.entries.Needs.TheVariants.{Everybody, Roles}
 use Rattle.soundness.specs.Valid.{Whole}
 use Rattle.deciding.specs.declared.runs.RunStep.{RunStep}
 use Rattle.deciding.specs.declared.plan.Plan.{Plan}
 use Rattle.deciding.specs.Masked.{whole_needs}
-use Rattle.deciding.specs.Delegates.{user_at}
+use Rattle.deciding.specs.Slots.{slots_of, slot_at}
+use Rattle.bounded.proofs.Listing.{few}
 use Rattle.planning.specs.Seats.{seated}
 use Rattle.verdicts.specs.Looking.{Says, Sought, change_of, changes}
 use Rattle.verdicts.specs.Ready.{Ready}
 use Rattle.verdicts.specs.Candidates.{adds_to, Candidate}
 use Rattle.verdicts.specs.Verdict.{sought_by}
-use Rattle.verdicts.proofs.Tracked.{tracking, seated_looked}
+use Rattle.verdicts.proofs.Tracked.{seated_looked}
 use Rattle.verdicts.proofs.Stripping.{holder_seated}
 
 pub whole_needs_lem : (n : Needs) → Whole n → whole_needs n ≡ true
@@ -47,7 +41,7 @@ whole_needs_lem Everybody w = refl
 whole_needs_lem (Roles n) (x, e, r) = whole_balanced (nodes_of n) (x, e)
 
 -- the words that are filled in say the present state
-pub says_start : (p : Policy) (s : State) (q : Question) (plan : Plan) → Ready p s q plan → (ws : List ℕ) → ((i : ℕ) → i < plan.len → get_or ws i 0 ≡ (get_or plan.roles i no_roles).word) → Says plan.users plan.len ws s
+pub says_start : (p : Policy) (s : State) (q : Question) (plan : Plan) → Ready p s q plan → (ws : List ℕ) → ((i : ℕ) → i < length (slots_of plan) → get_or ws i 0 ≡ (slot_at (slots_of plan) i).roles.word) → Says (slots_of plan) ws s
 says_start p s q plan z ws e = record {
   rows = λ i l. ap (λ w. roles_of (record { word = w })) (e i l) ∙ z.planned.seats.rows i l;
   others = λ u r h. holder_seated p s q plan z u r h;
@@ -88,13 +82,13 @@ changes_few up zero xs = omega arith
 changes_few up (suc m) [] = omega arith
 changes_few up (suc m) (x ∷ xs) = let e = changes_few up m xs in omega arith
 
-module _ (p : Policy) (s : State) (q : Question) (plan : Plan) (z : Ready p s q plan) (place : Place) (n : ℕ) (run : List RunStep) (c : Candidate p s q plan place n run) where
+module _ (p : Policy) (s : State) (q : Question) (plan : Plan) (z : Ready p s q plan) (place : Place) (n : ℕ) (run : List RunStep) (c : Candidate p s q (slots_of plan) place n run) where
   abbrev up : Bool
   up = adds_to place
 
-  who : (u : User) → T (seated plan.users plan.len u) → Holder s u ⊎ (T (listed (names q) u) ⊎ (u ≡ user_at plan.users z.planned.before))
-  who u h = elim (seated_looked p s q plan.users plan.roles plan.acts plan.len plan.few plan.seats z.planned u h) [
-    | inl t ↦ ⊎_map (λ x. x) (λ x. inl x) ((z.planned.tracked u).0 (as_true (seated plan.users z.planned.before u) t))
+  who : (u : User) → T (seated (slots_of plan) u) → Holder s u ⊎ (T (listed (names q) u) ⊎ (u ≡ z.planned.hire.user.number))
+  who u h = elim (seated_looked p s q (slots_of plan) (few plan.slots) z.planned u h) [
+    | inl t ↦ ⊎_map (λ x. x) (λ x. inl x) ((z.planned.tracked u).0 (as_true (seated z.planned.before u) t))
     | inr e ↦ inr (inr e)
   ]
 
@@ -108,9 +102,9 @@ module _ (p : Policy) (s : State) (q : Question) (plan : Plan) (z : Ready p s q 
       not_before = λ j lj h. let few = changes_few up m run in before j (omega arith) (subst (λ cs. Sought sought p q (end s cs)) (changes_take up j m run (omega arith)) h);
     };
     names_few = (
-      user_at plan.users z.planned.before,
-      subst (Each (λ u. Holder s u ⊎ (T (listed (names q) u) ⊎ (u ≡ user_at plan.users z.planned.before)))) front
-          (each_take (λ u. T (seated plan.users plan.len u)) (λ u. Holder s u ⊎ (T (listed (names q) u) ⊎ (u ≡ user_at plan.users z.planned.before))) who m (changes up (take n run)) c.names),
+      z.planned.hire.user.number,
+      subst (Each (λ u. Holder s u ⊎ (T (listed (names q) u) ⊎ (u ≡ z.planned.hire.user.number)))) front
+          (each_take (λ u. T (seated (slots_of plan) u)) (λ u. Holder s u ⊎ (T (listed (names q) u) ⊎ (u ≡ z.planned.hire.user.number))) who m (changes up (take n run)) c.names),
     );
     short = let few = changes_few up m run in omega (arith, c.few);
   }

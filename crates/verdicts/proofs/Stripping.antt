@@ -14,105 +14,96 @@ use Rattle.policy.proofs.Tests.{agree, first, second, both, clash, deny, as_true
 use Rattle.policy.proofs.Numbered.{gives_revocable}
 use Rattle.policy.proofs.Runs.{joined, ends}
 use Rattle.policy.proofs.Floor.{each_joined, removes_joined, stays, by_regime}
-use Rattle.rbac.specs.declared.users.User.{User as AUser}
 use Rattle.deciding.specs.declared.runs.RunStep.{RunStep}
 use Rattle.deciding.specs.declared.plan.Plan.{Plan}
-use Rattle.deciding.specs.Delegates.{user_at, removing}
+use Rattle.deciding.specs.declared.plan.Slot.{Slot}
+use Rattle.deciding.specs.Slots.{slots_of, user_at}
+use Rattle.deciding.specs.Delegates.{removing}
+use Rattle.bounded.proofs.Listing.{few}
 use Rattle.planning.specs.Seats.{seated}
 use Rattle.planning.proofs.Seating.{at_seated}
-use Rattle.verdicts.specs.Looking.{changes, slot_in}
+use Rattle.verdicts.specs.Looking.{changes, place}
 use Rattle.verdicts.specs.Ready.{Ready, Sitting}
 use Rattle.verdicts.specs.Stripped.{Takes, lowered, Stripped}
-use Rattle.verdicts.proofs.Tracked.{slot_is}
+use Rattle.verdicts.proofs.Tracked.{at_place, looked_seated}
 
 no_nth : {k : ℕ} {rule : RevokeRule} → Nth k rule [] → ⊥
 no_nth n = elim n [ ]
 
-sits_joined : (list : List AUser) (len : ℕ) (xs ys : List RunStep) → Sitting list len xs → Sitting list len ys → Sitting list len (xs ++ ys)
-sits_joined list len [] ys a b = b
-sits_joined list len (x ∷ xs) ys a b = (a.0, sits_joined list len xs ys a.1 b)
+sits_joined : (slots : List Slot) (xs ys : List RunStep) → Sitting slots xs → Sitting slots ys → Sitting slots (xs ++ ys)
+sits_joined slots [] ys a b = b
+sits_joined slots (x ∷ xs) ys a b = (a.0, sits_joined slots xs ys a.1 b)
 
 changes_joined : (xs ys : List RunStep) → changes false (xs ++ ys) ≡ changes false xs ++ changes false ys
 changes_joined [] ys = refl
 changes_joined (x ∷ xs) ys = ap (λ r. removing x ∷ r) (changes_joined xs ys)
 
 module _ (p : Policy) (s : State) (q : Question) (plan : Plan) (z : Ready p s q plan) where
-  abbrev list : List AUser
-  list = plan.users
+  abbrev slots : List Slot
+  slots = slots_of plan
 
   abbrev out : Role → Bool
   out r = revocable p.revokes r
 
   -- who has a role has a slot
-  has_slot : (u : User) (r : Role) → T (s u r) → (slot_in plan u < plan.len) × (user_at list (slot_in plan u) ≡ u) × (r < 64)
-  has_slot u r h =
-      let sit : T (seated list plan.len u) = sits ((z.planned.tracked u).1 (inl (r, h))) in
-      let (l, e) = slot_is p s q list plan.roles plan.acts plan.len plan.few plan.seats z.planned u sit in
-      (l, e, (z.measured.assigned_inside u r h).1)
-    where
-      sits : seated list z.planned.before u ≡ true → T (seated list plan.len u)
-      sits e =
-          let last = z.planned.last in
-          let (i, l, at) = Rattle.planning.proofs.Seating.seated_at list z.planned.before (omega (arith, plan.few, plan.seats)) u (as_test (seated list z.planned.before u) e) in
-          subst (λ v. T (seated list plan.len v)) at (at_seated list plan.len (omega (arith, plan.few, plan.seats)) i (omega arith))
+  pub holder_seated : (u : User) (r : Role) → T (s u r) → T (seated slots u)
+  holder_seated u r h = looked_seated p s q slots (few plan.slots) z.planned u (inl (as_test _ ((z.planned.tracked u).1 (inl (r, h)))))
 
-  pub holder_seated : (u : User) (r : Role) → T (s u r) → T (seated list plan.len u)
-  holder_seated u r h =
-      let (l, e, lr) = has_slot u r h in
-      subst (λ v. T (seated list plan.len v)) e (at_seated list plan.len (omega (arith, plan.few, plan.seats)) (slot_in plan u) l)
+  has_slot : (u : User) (r : Role) → T (s u r) → (place slots u < length slots) × (user_at slots (place slots u) ≡ u) × (r < 64)
+  has_slot u r h = let (l, e) = at_place slots u (holder_seated u r h) in (l, e, (z.measured.assigned_inside u r h).1)
 
-  slot_at : (i : ℕ) → i < plan.len → slot_in plan (user_at list i) ≡ i
-  slot_at i l =
-      let (m, e) = slot_is p s q list plan.roles plan.acts plan.len plan.few plan.seats z.planned (user_at list i) (at_seated list plan.len (omega (arith, plan.few, plan.seats)) i l) in
-      z.planned.seats.distinct (slot_in plan (user_at list i)) i m l e
+  slot_at_place : (i : ℕ) → i < length slots → place slots (user_at slots i) ≡ i
+  slot_at_place i l =
+      let (m, e) = at_place slots (user_at slots i) (at_seated slots i l) in
+      z.planned.seats.distinct (place slots (user_at slots i)) i m l e
 
   abbrev low : ℕ → State
-  low f = lowered p s plan f
+  low f = lowered p s slots f
 
   -- nothing is taken yet; at the end the floor is left
   pub low_none : s ≡ low 0
   low_none = fun_ext (λ u. fun_ext (λ r. agree (s u r) (low 0 u r)
-      (λ h. both (s u r) (not (out r && ltb (64 * slot_in plan u + r) 0)) h (deny (out r && ltb (64 * slot_in plan u + r) 0) (λ i. let l : 64 * slot_in plan u + r < 0 = ltb→lt (64 * slot_in plan u + r) 0 (second (out r) (ltb (64 * slot_in plan u + r) 0) i) in omega arith)))
-      (λ h. first (s u r) (not (out r && ltb (64 * slot_in plan u + r) 0)) h)))
+      (λ h. both (s u r) (not (out r && ltb (64 * place slots u + r) 0)) h (deny (out r && ltb (64 * place slots u + r) 0) (λ i. let l : 64 * place slots u + r < 0 = ltb→lt (64 * place slots u + r) 0 (second (out r) (ltb (64 * place slots u + r) 0) i) in omega arith)))
+      (λ h. first (s u r) (not (out r && ltb (64 * place slots u + r) 0)) h)))
 
-  pub low_all : low (64 * plan.len) ≡ floor p s
-  low_all = fun_ext (λ u. fun_ext (λ r. agree (low (64 * plan.len) u r) (floor p s u r)
-      (λ h. let i = first (s u r) (not (out r && ltb (64 * slot_in plan u + r) (64 * plan.len))) h in
+  pub low_all : low (64 * length slots) ≡ floor p s
+  low_all = fun_ext (λ u. fun_ext (λ r. agree (low (64 * length slots) u r) (floor p s u r)
+      (λ h. let i = first (s u r) (not (out r && ltb (64 * place slots u + r) (64 * length slots))) h in
       let (l, e, lr) = has_slot u r i in
-      both (s u r) (not (out r)) i (deny (out r) (λ o. clash (out r && ltb (64 * slot_in plan u + r) (64 * plan.len)) (both (out r) (ltb (64 * slot_in plan u + r) (64 * plan.len)) o (lt→ltb (64 * slot_in plan u + r) (64 * plan.len) (omega arith))) (second (s u r) (not (out r && ltb (64 * slot_in plan u + r) (64 * plan.len))) h))))
-      (λ h. both (s u r) (not (out r && ltb (64 * slot_in plan u + r) (64 * plan.len))) (first (s u r) (not (out r)) h) (deny (out r && ltb (64 * slot_in plan u + r) (64 * plan.len)) (λ i. clash (out r) (first (out r) (ltb (64 * slot_in plan u + r) (64 * plan.len)) i) (second (s u r) (not (out r)) h))))))
+      both (s u r) (not (out r)) i (deny (out r) (λ o. clash (out r && ltb (64 * place slots u + r) (64 * length slots)) (both (out r) (ltb (64 * place slots u + r) (64 * length slots)) o (lt→ltb (64 * place slots u + r) (64 * length slots) (omega arith))) (second (s u r) (not (out r && ltb (64 * place slots u + r) (64 * length slots))) h))))
+      (λ h. both (s u r) (not (out r && ltb (64 * place slots u + r) (64 * length slots))) (first (s u r) (not (out r)) h) (deny (out r && ltb (64 * place slots u + r) (64 * length slots)) (λ i. clash (out r) (first (out r) (ltb (64 * place slots u + r) (64 * length slots)) i) (second (s u r) (not (out r)) h))))))
 
-  module _ (i r : ℕ) (li : i < plan.len) (lr : r < 64) where
+  module _ (i r : ℕ) (li : i < length slots) (lr : r < 64) where
     abbrev f : ℕ
     f = 64 * i + r
 
     abbrev u : User
-    u = user_at list i
+    u = user_at slots i
 
     -- the fact is not this one, or it is
-    other : (v w : ℕ) → T (s v w) → (64 * slot_in plan v + w ≡ f) → (v ≡ u) × (w ≡ r)
+    other : (v w : ℕ) → T (s v w) → (64 * place slots v + w ≡ f) → (v ≡ u) × (w ≡ r)
     other v w h e =
         let (l, at, lw) = has_slot v w h in
-        let same : slot_in plan v ≡ i = omega arith in
-        (sym at ∙ ap (user_at list) same, omega arith)
+        let same : place slots v ≡ i = omega arith in
+        (sym at ∙ ap (user_at slots) same, omega arith)
 
     pub low_skip : (s u r && out r) ≡ false → low f ≡ low (f + 1)
     low_skip none = fun_ext (λ v. fun_ext (λ w. agree (low f v w) (low (f + 1) v w)
-        (λ h. let x = first (s v w) (not (out w && ltb (64 * slot_in plan v + w) f)) h in
-        both (s v w) (not (out w && ltb (64 * slot_in plan v + w) (f + 1))) x (deny (out w && ltb (64 * slot_in plan v + w) (f + 1)) (λ i.
-        let o = first (out w) (ltb (64 * slot_in plan v + w) (f + 1)) i in
-        let lt : 64 * slot_in plan v + w < f + 1 = ltb→lt (64 * slot_in plan v + w) (f + 1) (second (out w) (ltb (64 * slot_in plan v + w) (f + 1)) i) in
+        (λ h. let x = first (s v w) (not (out w && ltb (64 * place slots v + w) f)) h in
+        both (s v w) (not (out w && ltb (64 * place slots v + w) (f + 1))) x (deny (out w && ltb (64 * place slots v + w) (f + 1)) (λ i.
+        let o = first (out w) (ltb (64 * place slots v + w) (f + 1)) i in
+        let lt : 64 * place slots v + w < f + 1 = ltb→lt (64 * place slots v + w) (f + 1) (second (out w) (ltb (64 * place slots v + w) (f + 1)) i) in
         ⊎_elim
-        (λ (e : 64 * slot_in plan v + w ≡ f). let (a, b) = other v w x e in both_ways (s u r && out r) none (as_true (s u r && out r) (both (s u r) (out r) (subst (λ w. T (s u w)) b (subst (λ v. T (s v w)) a x)) (subst (λ w. T (out w)) b o))))
-        (λ (e : 64 * slot_in plan v + w ≡ f → ⊥). clash (out w && ltb (64 * slot_in plan v + w) f) (both (out w) (ltb (64 * slot_in plan v + w) f) o (lt→ltb (64 * slot_in plan v + w) f (omega arith))) (second (s v w) (not (out w && ltb (64 * slot_in plan v + w) f)) h))
-        (cases_eq (64 * slot_in plan v + w) f))))
+        (λ (e : 64 * place slots v + w ≡ f). let (a, b) = other v w x e in both_ways (s u r && out r) none (as_true (s u r && out r) (both (s u r) (out r) (subst (λ w. T (s u w)) b (subst (λ v. T (s v w)) a x)) (subst (λ w. T (out w)) b o))))
+        (λ (e : 64 * place slots v + w ≡ f → ⊥). clash (out w && ltb (64 * place slots v + w) f) (both (out w) (ltb (64 * place slots v + w) f) o (lt→ltb (64 * place slots v + w) f (omega arith))) (second (s v w) (not (out w && ltb (64 * place slots v + w) f)) h))
+        (cases_eq (64 * place slots v + w) f))))
         (wider v w)))
       where
         wider : (v w : ℕ) → T (low (f + 1) v w) → T (low f v w)
-        wider v w h = both (s v w) (not (out w && ltb (64 * slot_in plan v + w) f)) (first (s v w) (not (out w && ltb (64 * slot_in plan v + w) (f + 1))) h)
-            (deny (out w && ltb (64 * slot_in plan v + w) f) (λ i.
-            let lt : 64 * slot_in plan v + w < f = ltb→lt (64 * slot_in plan v + w) f (second (out w) (ltb (64 * slot_in plan v + w) f) i) in
-            clash (out w && ltb (64 * slot_in plan v + w) (f + 1)) (both (out w) (ltb (64 * slot_in plan v + w) (f + 1)) (first (out w) (ltb (64 * slot_in plan v + w) f) i) (lt→ltb (64 * slot_in plan v + w) (f + 1) (omega arith))) (second (s v w) (not (out w && ltb (64 * slot_in plan v + w) (f + 1))) h)))
+        wider v w h = both (s v w) (not (out w && ltb (64 * place slots v + w) f)) (first (s v w) (not (out w && ltb (64 * place slots v + w) (f + 1))) h)
+            (deny (out w && ltb (64 * place slots v + w) f) (λ i.
+            let lt : 64 * place slots v + w < f = ltb→lt (64 * place slots v + w) f (second (out w) (ltb (64 * place slots v + w) f) i) in
+            clash (out w && ltb (64 * place slots v + w) (f + 1)) (both (out w) (ltb (64 * place slots v + w) (f + 1)) (first (out w) (ltb (64 * place slots v + w) f) i) (lt→ltb (64 * place slots v + w) (f + 1) (omega arith))) (second (s v w) (not (out w && ltb (64 * place slots v + w) (f + 1))) h)))
 
     -- the role is taken
     low_taken : (a k : ℕ) → T (s u r) → T (out r) → after (removes a u r k) (low f) ≡ low (f + 1)
@@ -121,27 +112,27 @@ module _ (p : Policy) (s : State) (q : Question) (plan : Plan) (z : Ready p s q 
         there : (v w : ℕ) → T (low f v w && not (pair u r v w)) → T (low (f + 1) v w)
         there v w g =
             let x = first (low f v w) (not (pair u r v w)) g in
-            let sx = first (s v w) (not (out w && ltb (64 * slot_in plan v + w) f)) x in
-            both (s v w) (not (out w && ltb (64 * slot_in plan v + w) (f + 1))) sx (deny (out w && ltb (64 * slot_in plan v + w) (f + 1)) (λ j.
-            let lt : 64 * slot_in plan v + w < f + 1 = ltb→lt (64 * slot_in plan v + w) (f + 1) (second (out w) (ltb (64 * slot_in plan v + w) (f + 1)) j) in
+            let sx = first (s v w) (not (out w && ltb (64 * place slots v + w) f)) x in
+            both (s v w) (not (out w && ltb (64 * place slots v + w) (f + 1))) sx (deny (out w && ltb (64 * place slots v + w) (f + 1)) (λ j.
+            let lt : 64 * place slots v + w < f + 1 = ltb→lt (64 * place slots v + w) (f + 1) (second (out w) (ltb (64 * place slots v + w) (f + 1)) j) in
             ⊎_elim
-            (λ (e : 64 * slot_in plan v + w ≡ f). let (a, b) = other v w sx e in clash (pair u r v w) (subst⁻¹ (λ v. T (pair u r v w)) a (subst⁻¹ (λ w. T (pair u r u w)) b (it_is u r))) (second (low f v w) (not (pair u r v w)) g))
-            (λ (e : 64 * slot_in plan v + w ≡ f → ⊥). clash (out w && ltb (64 * slot_in plan v + w) f) (both (out w) (ltb (64 * slot_in plan v + w) f) (first (out w) (ltb (64 * slot_in plan v + w) (f + 1)) j) (lt→ltb (64 * slot_in plan v + w) f (omega arith))) (second (s v w) (not (out w && ltb (64 * slot_in plan v + w) f)) x))
-            (cases_eq (64 * slot_in plan v + w) f)))
+            (λ (e : 64 * place slots v + w ≡ f). let (a, b) = other v w sx e in clash (pair u r v w) (subst⁻¹ (λ v. T (pair u r v w)) a (subst⁻¹ (λ w. T (pair u r u w)) b (it_is u r))) (second (low f v w) (not (pair u r v w)) g))
+            (λ (e : 64 * place slots v + w ≡ f → ⊥). clash (out w && ltb (64 * place slots v + w) f) (both (out w) (ltb (64 * place slots v + w) f) (first (out w) (ltb (64 * place slots v + w) (f + 1)) j) (lt→ltb (64 * place slots v + w) f (omega arith))) (second (s v w) (not (out w && ltb (64 * place slots v + w) f)) x))
+            (cases_eq (64 * place slots v + w) f)))
 
         back : (v w : ℕ) → T (low (f + 1) v w) → T (low f v w && not (pair u r v w))
         back v w g =
-            let sx = first (s v w) (not (out w && ltb (64 * slot_in plan v + w) (f + 1))) g in
-            let keep = second (s v w) (not (out w && ltb (64 * slot_in plan v + w) (f + 1))) g in
+            let sx = first (s v w) (not (out w && ltb (64 * place slots v + w) (f + 1))) g in
+            let keep = second (s v w) (not (out w && ltb (64 * place slots v + w) (f + 1))) g in
             both (low f v w) (not (pair u r v w))
-            (both (s v w) (not (out w && ltb (64 * slot_in plan v + w) f)) sx (deny (out w && ltb (64 * slot_in plan v + w) f) (λ j.
-            let lt : 64 * slot_in plan v + w < f = ltb→lt (64 * slot_in plan v + w) f (second (out w) (ltb (64 * slot_in plan v + w) f) j) in
-            clash (out w && ltb (64 * slot_in plan v + w) (f + 1)) (both (out w) (ltb (64 * slot_in plan v + w) (f + 1)) (first (out w) (ltb (64 * slot_in plan v + w) f) j) (lt→ltb (64 * slot_in plan v + w) (f + 1) (omega arith))) keep)))
+            (both (s v w) (not (out w && ltb (64 * place slots v + w) f)) sx (deny (out w && ltb (64 * place slots v + w) f) (λ j.
+            let lt : 64 * place slots v + w < f = ltb→lt (64 * place slots v + w) f (second (out w) (ltb (64 * place slots v + w) f) j) in
+            clash (out w && ltb (64 * place slots v + w) (f + 1)) (both (out w) (ltb (64 * place slots v + w) (f + 1)) (first (out w) (ltb (64 * place slots v + w) f) j) (lt→ltb (64 * place slots v + w) (f + 1) (omega arith))) keep)))
             (deny (pair u r v w) (λ j.
             let e = is_it u r v w j in
-            let at : slot_in plan v ≡ i = ap (slot_in plan) e.0 ∙ slot_at i li in
+            let at : place slots v ≡ i = ap (place slots) e.0 ∙ slot_at_place i li in
             let same_w = e.1 in
-            clash (out w && ltb (64 * slot_in plan v + w) (f + 1)) (both (out w) (ltb (64 * slot_in plan v + w) (f + 1)) (subst⁻¹ (λ w. T (out w)) e.1 o) (lt→ltb (64 * slot_in plan v + w) (f + 1) (omega arith))) keep))
+            clash (out w && ltb (64 * place slots v + w) (f + 1)) (both (out w) (ltb (64 * place slots v + w) (f + 1)) (subst⁻¹ (λ w. T (out w)) e.1 o) (lt→ltb (64 * place slots v + w) (f + 1) (omega arith))) keep))
 
     -- by a permitted change
     record Step (c : Change) : Type 0 where
@@ -150,11 +141,11 @@ module _ (p : Policy) (s : State) (q : Question) (plan : Plan) (z : Ready p s q 
       removes_only : OnlyRemoves (c ∷ [])
       holders : Each (Holder s) (c ∷ [])
 
-    step : (x : RunStep) → Takes p s plan i r x → Step (removing x)
+    step : (x : RunStep) → Takes p s slots i r x → Step (removing x)
     step x t = subst⁻¹ Step same_change made
       where
         a : User
-        a = user_at list t.actor
+        a = user_at slots t.actor
 
         same_change : removing x ≡ removes a u r x.rule
         same_change = ap₂ (λ v w. removes v w x.role.number x.rule) t.actor_is t.user_is ∙ ap (λ w. removes a u w x.rule) t.role_is
@@ -163,9 +154,9 @@ module _ (p : Policy) (s : State) (q : Question) (plan : Plan) (z : Ready p s q 
         gone = gives_revocable t.numbered r t.target
 
         here : T (low f u r)
-        here = both (s u r) (not (out r && ltb (64 * slot_in plan u + r) f)) t.there (deny (out r && ltb (64 * slot_in plan u + r) f) (λ j.
-            let lt : 64 * slot_in plan u + r < f = ltb→lt (64 * slot_in plan u + r) f (second (out r) (ltb (64 * slot_in plan u + r) f) j) in
-            let at = slot_at i li in omega arith))
+        here = both (s u r) (not (out r && ltb (64 * place slots u + r) f)) t.there (deny (out r && ltb (64 * place slots u + r) f) (λ j.
+            let lt : 64 * place slots u + r < f = ltb→lt (64 * place slots u + r) f (second (out r) (ltb (64 * place slots u + r) f) j) in
+            let at = slot_at_place i li in omega arith))
 
         aar : Aar p s
         aar = go (by_regime p s z.regular)
@@ -187,21 +178,21 @@ module _ (p : Policy) (s : State) (q : Question) (plan : Plan) (z : Ready p s q 
           administers = (
             t.rule.admin,
             same,
-            both (s a t.rule.admin) (not (out t.rule.admin && ltb (64 * slot_in plan a + t.rule.admin) f)) t.administers
-                (deny (out t.rule.admin && ltb (64 * slot_in plan a + t.rule.admin) f) (λ j. clash (out t.rule.admin) (first (out t.rule.admin) (ltb (64 * slot_in plan a + t.rule.admin) f) j) keeps)),
+            both (s a t.rule.admin) (not (out t.rule.admin && ltb (64 * place slots a + t.rule.admin) f)) t.administers
+                (deny (out t.rule.admin && ltb (64 * place slots a + t.rule.admin) f) (λ j. clash (out t.rule.admin) (first (out t.rule.admin) (ltb (64 * place slots a + t.rule.admin) f) j) keeps)),
           );
         }
 
         made : Step (removes a u r x.rule)
         made = record { allowed = ((here, may), tt); leaves = low_taken a x.rule t.there gone; removes_only = tt; holders = ((t.rule.admin, t.administers), (r, t.there), tt) }
 
-    pub strip_more : (n : ℕ) (xs : List RunStep) (x : RunStep) → n < length xs → Takes p s plan i r x → Stripped p s plan f n xs → Stripped p s plan (f + 1) (n + 1) (set xs n x)
+    pub strip_more : (n : ℕ) (xs : List RunStep) (x : RunStep) → n < length xs → Takes p s slots i r x → Stripped p s slots f n xs → Stripped p s slots (f + 1) (n + 1) (set xs n x)
     strip_more n xs x l t w = record {
       few = omega (arith, w.few);
       lawful = subst⁻¹ (λ cs. Run (moves p) s cs) more (joined (moves p) s old (removing x ∷ []) w.lawful (subst⁻¹ (λ t. Run (moves p) t (removing x ∷ [])) w.ends st.allowed));
       removing = subst⁻¹ OnlyRemoves more (removes_joined old (removing x ∷ []) w.removing st.removes_only);
       rowed = subst⁻¹ (Each (Holder s)) more (each_joined (Holder s) old (removing x ∷ []) w.rowed st.holders);
-      sitting = subst⁻¹ (Sitting list plan.len) front (sits_joined list plan.len (take n xs) (x ∷ []) w.sitting (subst⁻¹ (λ v. T (seated list plan.len v)) t.user_is (at_seated list plan.len (omega (arith, plan.few, plan.seats)) i li), tt));
+      sitting = subst⁻¹ (Sitting slots) front (sits_joined slots (take n xs) (x ∷ []) w.sitting (subst⁻¹ (λ v. T (seated slots v)) t.user_is (at_seated slots i li), tt));
       ends = ap (end s) more ∙ ends s old (removing x ∷ []) ∙ ap (λ t. end t (removing x ∷ [])) w.ends ∙ st.leaves;
     }
       where
@@ -217,22 +208,22 @@ module _ (p : Policy) (s : State) (q : Question) (plan : Plan) (z : Ready p s q 
         more : changes false (take (n + 1) (set xs n x)) ≡ old ++ (removing x ∷ [])
         more = ap (changes false) front ∙ changes_joined (take n xs) (x ∷ [])
 
-    pub strip_skip : (n : ℕ) (xs : List RunStep) → (s u r && out r) ≡ false → Stripped p s plan f n xs → Stripped p s plan (f + 1) n xs
+    pub strip_skip : (n : ℕ) (xs : List RunStep) → (s u r && out r) ≡ false → Stripped p s slots f n xs → Stripped p s slots (f + 1) n xs
     strip_skip n xs e w = record { few = omega (arith, w.few); lawful = w.lawful; removing = w.removing; rowed = w.rowed; sitting = w.sitting; ends = w.ends ∙ low_skip e }
 
-  pub strip_none : (xs : List RunStep) → Stripped p s plan 0 0 xs
+  pub strip_none : (xs : List RunStep) → Stripped p s slots 0 0 xs
   strip_none xs = record { few = omega arith; lawful = tt; removing = tt; rowed = tt; sitting = tt; ends = low_none }
 
   -- the administering role is assigned to the user of some slot
-  pub some_holder : (r : Role) (x : ℕ) (rule : RevokeRule) → Nth x rule p.revokes → (i : ℕ) × (i < plan.len) × T (s (user_at list i) rule.admin)
+  pub some_holder : (r : Role) (x : ℕ) (rule : RevokeRule) → Nth x rule p.revokes → (i : ℕ) × (i < length slots) × T (s (user_at slots i) rule.admin)
   some_holder r x rule nth = go (by_regime p s z.regular)
     where
-      go : Aatu p ⊎ Aar p s → (i : ℕ) × (i < plan.len) × T (s (user_at list i) rule.admin)
+      go : Aatu p ⊎ Aar p s → (i : ℕ) × (i < length slots) × T (s (user_at slots i) rule.admin)
       go (inl none) = absurd (no_nth (subst (λ rules. Nth x rule rules) none nth))
       go (inr g) =
           let (v, v-user, h) = g.assigned rule.admin (inr (x, rule, nth, refl)) in
           let (l, e, lr) = has_slot v rule.admin h in
-          (slot_in plan v, l, subst⁻¹ (λ w. T (s w rule.admin)) e h)
+          (place slots v, l, subst⁻¹ (λ w. T (s w rule.admin)) e h)
 
 pub and_off : (a b : Bool) → b ≡ false → (a && b) ≡ false
 and_off true b e = e
@@ -240,15 +231,15 @@ and_off false b e = refl
 
 -- a fact is of this form
 pub strip_some : (p : Policy) (s : State) (q : Question) (plan : Plan) → Ready p s q plan → (f n : ℕ) (xs : List RunStep) (x : RunStep) (r : ℕ)
-    → f < 64 * plan.len → r ≡ f % 64 → n < length xs → Takes p s plan (f / 64) r x → Stripped p s plan f n xs → Stripped p s plan (f + 1) (n + 1) (set xs n x)
+    → f < 64 * length (slots_of plan) → r ≡ f % 64 → n < length xs → Takes p s (slots_of plan) (f / 64) r x → Stripped p s (slots_of plan) f n xs → Stripped p s (slots_of plan) (f + 1) (n + 1) (set xs n x)
 strip_some p s q plan z f n xs x r l er ln t w =
     let e : 64 * (f / 64) + f % 64 ≡ f = omega arith in
-    subst (λ g. Stripped p s plan (g + 1) (n + 1) (set xs n x)) e
-    (strip_more p s q plan z (f / 64) (f % 64) (omega arith) (omega arith) n xs x ln (subst (λ r. Takes p s plan (f / 64) r x) er t) (subst⁻¹ (λ g. Stripped p s plan g n xs) e w))
+    subst (λ g. Stripped p s (slots_of plan) (g + 1) (n + 1) (set xs n x)) e
+    (strip_more p s q plan z (f / 64) (f % 64) (omega arith) (omega arith) n xs x ln (subst (λ r. Takes p s (slots_of plan) (f / 64) r x) er t) (subst⁻¹ (λ g. Stripped p s (slots_of plan) g n xs) e w))
 
 pub strip_none_here : (p : Policy) (s : State) (q : Question) (plan : Plan) → Ready p s q plan → (f n : ℕ) (xs : List RunStep) (r : ℕ)
-    → f < 64 * plan.len → r ≡ f % 64 → (s (user_at plan.users (f / 64)) r && revocable p.revokes r) ≡ false → Stripped p s plan f n xs → Stripped p s plan (f + 1) n xs
+    → f < 64 * length (slots_of plan) → r ≡ f % 64 → (s (user_at (slots_of plan) (f / 64)) r && revocable p.revokes r) ≡ false → Stripped p s (slots_of plan) f n xs → Stripped p s (slots_of plan) (f + 1) n xs
 strip_none_here p s q plan z f n xs r l er t w =
     let e : 64 * (f / 64) + f % 64 ≡ f = omega arith in
-    subst (λ g. Stripped p s plan (g + 1) n xs) e
-    (strip_skip p s q plan z (f / 64) (f % 64) (omega arith) (omega arith) n xs (subst (λ r. (s (user_at plan.users (f / 64)) r && revocable p.revokes r) ≡ false) er t) (subst⁻¹ (λ g. Stripped p s plan g n xs) e w))
+    subst (λ g. Stripped p s (slots_of plan) (g + 1) n xs) e
+    (strip_skip p s q plan z (f / 64) (f % 64) (omega arith) (omega arith) n xs (subst (λ r. (s (user_at (slots_of plan) (f / 64)) r && revocable p.revokes r) ≡ false) er t) (subst⁻¹ (λ g. Stripped p s (slots_of plan) g n xs) e w))

@@ -1,7 +1,8 @@
 -- One step of a run, at the slots.
-use Rattle.std.proofs.Common.{◌≡◌, ℕ, zero, suc, ◌+◌, ◌<◌, ◌≤◌, Bool, true, false, not, ◌&&◌, ◌||◌, T, eqb, ◌≢◌, ◌⊎◌, List, [], ◌∷◌, length, get_or, take, set, Decides, sym, refl, ap, ◌∙◌, subst, inl, inr, ⊎_elim, not-suc-le-zero, arith, eqb→eq, get_or-set_other, get_or-set_same}
+use Rattle.std.proofs.Common.{◌≡◌, ℕ, zero, suc, ◌+◌, ◌<◌, ◌≤◌, Bool, true, false, Some, None, not, ◌&&◌, ◌||◌, T, eqb, ◌≢◌, ◌⊎◌, List, [], ◌∷◌, length, get_or, take, set, Decides, sym, refl, ap, ◌∙◌, subst, inl, inr, ⊎_elim, not-suc-le-zero, arith, eqb→eq, get_or-set_other, get_or-set_same}
 use mathlib.Core.Path.{subst⁻¹, fun_ext}
 use mathlib.Core.Bool.{beq}
+use Rattle.std.specs.Bool.{then_some}
 use Rattle.std.proofs.lemmas.Bool.{cases_eq, both_ways, ne_eqb, eq-eqb}
 use Rattle.steps.specs.Steps.{count}
 use Rattle.policy.specs.Membership.{User, Role, State}
@@ -11,15 +12,16 @@ use Rattle.policy.specs.Runs.{pair, after, end}
 use Rattle.policy.specs.Hire.{Tracking}
 use Rattle.policy.proofs.Tests.{either, first, as_true, as_test, is_it}
 use Rattle.rbac.specs.declared.sets.RoleSet.{RoleSet}
-use Rattle.rbac.specs.declared.users.User.{User as AUser}
 use Rattle.rbac.specs.Roles.{roles_of}
 use Rattle.rbac.proofs.Masks.{of}
 use Rattle.deciding.specs.declared.runs.RunStep.{RunStep}
 use Rattle.deciding.specs.declared.plan.Plan.{Plan}
-use Rattle.deciding.specs.Delegates.{no_user, user_at}
+use Rattle.deciding.specs.declared.plan.Slot.{Slot}
+use Rattle.deciding.specs.Slots.{slots_of, slot_at, user_at}
+use Rattle.bounded.proofs.Listing.{few}
 use Rattle.planning.specs.Seats.{seated}
 use Rattle.planning.proofs.Ranking.{small}
-use Rattle.verdicts.specs.Looking.{word_row, passed, fails, failing, Says, Sought, change_of, changes, turned, one, place}
+use Rattle.verdicts.specs.Looking.{word_row, passed, fails, failing, Says, Sought, change_of, changes, turned, one, place, FoundAt}
 use Rattle.verdicts.specs.Ready.{Ready, Sitting}
 use Rattle.verdicts.proofs.Truth.{pass_in, in_pass, count_none, none_count, count_change, here_holds}
 use Rattle.verdicts.proofs.Tracked.{tracking, covers, slot_is, seated_looked, looked_seated}
@@ -45,8 +47,8 @@ still_there : (adds : Bool) (x : RunStep) (t : State) (v r : ℕ) → T (after (
 still_there true x t v r h = elim (either (t v r) (pair x.user.number x.role.number v r) h) [ inl i ↦ inl i | inr i ↦ inr (is_it x.user.number x.role.number v r i).0 ]
 still_there false x t v r h = inl (first (t v r) (not (pair x.user.number x.role.number v r)) h)
 
-module _ (list : List AUser) (len : ℕ) (ws : List ℕ) (adds : Bool) (x : RunStep) (j : ℕ) (roles next : RoleSet)
-    (below : j < len) (room : len ≤ length ws) (at : user_at list j ≡ x.user.number) (row : roles.word ≡ get_or ws j 0) (is : roles_of next ≡ turned adds (roles_of roles) x.role.number) where
+module _ (slots : List Slot) (ws : List ℕ) (adds : Bool) (x : RunStep) (j : ℕ) (roles next : RoleSet)
+    (below : j < length slots) (room : length slots ≤ length ws) (at : user_at slots j ≡ x.user.number) (row : roles.word ≡ get_or ws j 0) (is : roles_of next ≡ turned adds (roles_of roles) x.role.number) where
   abbrev new : List ℕ
   new = set ws j next.word
 
@@ -57,82 +59,79 @@ module _ (list : List AUser) (len : ℕ) (ws : List ℕ) (adds : Bool) (x : RunS
   new_other i e = let ne : i ≢ j = e in ap (λ w. roles_of (of w)) (get_or-set_other ws j i next.word 0 ne)
 
   -- the words then say the state that the step leaves
-  pub says_next : ((i k : ℕ) → i < len → k < len → user_at list i ≡ user_at list k → i ≡ k) → T (seated list len x.user.number)
-      → (t : State) → Says list len ws t → Says list len new (after (change_of adds x) t)
+  pub says_next : ((i k : ℕ) → i < length slots → k < length slots → user_at slots i ≡ user_at slots k → i ≡ k) → T (seated slots x.user.number)
+      → (t : State) → Says slots ws t → Says slots new (after (change_of adds x) t)
   says_next distinct seat t y = record { rows = rows; others = others }
     where
-      rows : (i : ℕ) → i < len → word_row new i ≡ after (change_of adds x) t (user_at list i)
+      rows : (i : ℕ) → i < length slots → word_row new i ≡ after (change_of adds x) t (user_at slots i)
       rows i l = ⊎_elim
-          (λ (e : i ≡ j). subst⁻¹ (λ k. word_row new k ≡ after (change_of adds x) t (user_at list k)) e
-          (new_here ∙ is ∙ ap (λ f. turned adds f x.role.number) (ap (λ w. roles_of (of w)) row ∙ y.rows j below) ∙ row_turned adds x t (user_at list j) at))
-          (λ (e : i ≡ j → ⊥). new_other i e ∙ y.rows i l ∙ row_kept adds x t (user_at list i) (λ d. e (distinct i j l below (d ∙ sym at))))
+          (λ (e : i ≡ j). subst⁻¹ (λ k. word_row new k ≡ after (change_of adds x) t (user_at slots k)) e
+          (new_here ∙ is ∙ ap (λ f. turned adds f x.role.number) (ap (λ w. roles_of (of w)) row ∙ y.rows j below) ∙ row_turned adds x t (user_at slots j) at))
+          (λ (e : i ≡ j → ⊥). new_other i e ∙ y.rows i l ∙ row_kept adds x t (user_at slots i) (λ d. e (distinct i j l below (d ∙ sym at))))
           (cases_eq i j)
 
-      others : (u : User) (r : Role) → T (after (change_of adds x) t u r) → T (seated list len u)
-      others u r h = elim (still_there adds x t u r h) [ inl i ↦ y.others u r i | inr e ↦ subst⁻¹ (λ v. T (seated list len v)) e seat ]
+      others : (u : User) (r : Role) → T (after (change_of adds x) t u r) → T (seated slots u)
+      others u r h = elim (still_there adds x t u r h) [ inl i ↦ y.others u r i | inr e ↦ subst⁻¹ (λ v. T (seated slots v)) e seat ]
 
   -- and one slot alone may pass or fail anew
   pub fails_next : (seniors givers : List RoleSet) (q : Question) (n m : ℕ) (was now : Bool)
-      → n ≡ failing seniors givers q list ws len → was ≡ passed seniors givers q (get_or list j no_user) (roles_of roles) → now ≡ passed seniors givers q (get_or list j no_user) (roles_of next)
-      → m + one (not was) ≡ n + one (not now) → m ≡ failing seniors givers q list new len
+      → n ≡ failing seniors givers q slots ws → was ≡ passed seniors givers q (slot_at slots j).user (roles_of roles) → now ≡ passed seniors givers q (slot_at slots j).user (roles_of next)
+      → m + one (not was) ≡ n + one (not now) → m ≡ failing seniors givers q slots new
   fails_next seniors givers q n m was now en ew eo em =
-      let f = fails seniors givers q list ws in
-      let g = fails seniors givers q list new in
-      let c = count_change f g j len below (λ i e. ap (λ r. not (passed seniors givers q (get_or list i no_user) r)) (sym (new_other i e))) in
-      let a : one (f j) ≡ one (not was) = ap (λ b. one (not b)) (ap (λ w. passed seniors givers q (get_or list j no_user) (roles_of (of w))) (sym row) ∙ sym ew) in
-      let b : one (g j) ≡ one (not now) = ap (λ b. one (not b)) (ap (passed seniors givers q (get_or list j no_user)) new_here ∙ sym eo) in
+      let f = fails seniors givers q slots ws in
+      let g = fails seniors givers q slots new in
+      let c = count_change f g j (length slots) below (λ i e. ap (λ r. not (passed seniors givers q (slot_at slots i).user r)) (sym (new_other i e))) in
+      let a : one (f j) ≡ one (not was) = ap (λ b. one (not b)) (ap (λ w. passed seniors givers q (slot_at slots j).user (roles_of (of w))) (sym row) ∙ sym ew) in
+      let b : one (g j) ≡ one (not now) = ap (λ b. one (not b)) (ap (passed seniors givers q (slot_at slots j).user) new_here ∙ sym eo) in
       omega arith
 
 -- the count is 0 just where the question is true
 module _ (p : Policy) (s : State) (q : Question) (plan : Plan) (z : Ready p s q plan) where
-  abbrev list : List AUser
-  list = plan.users
+  abbrev slots : List Slot
+  slots = slots_of plan
 
-  abbrev len : ℕ
-  len = plan.len
-
-  pub decides_here : (ws : List ℕ) (t : State) → Says list len ws t → Decides (eqb (failing plan.masks.seniors plan.masks.givers q list ws len) 0) (Holds p t q)
+  pub decides_here : (ws : List ℕ) (t : State) → Says slots ws t → Decides (eqb (failing plan.masks.seniors plan.masks.givers q slots ws) 0) (Holds p t q)
   decides_here ws t y = (there, back)
     where
       f : ℕ → Bool
-      f = fails plan.masks.seniors plan.masks.givers q list ws
+      f = fails plan.masks.seniors plan.masks.givers q slots ws
 
       low : (i : ℕ) (r : Role) → T (word_row ws i r) → r < 64
       low i r = small (of (get_or ws i 0)) r
 
       k : Tracking p s
-      k = tracking p s q list plan.roles plan.acts len plan.few plan.seats z.planned
+      k = tracking p s q (slots_of plan) (few plan.slots) z.planned
 
-      pass : (i : ℕ) → f i ≡ false → T (passed plan.masks.seniors plan.masks.givers q (get_or list i no_user) (word_row ws i))
-      pass i e = un (passed plan.masks.seniors plan.masks.givers q (get_or list i no_user) (word_row ws i)) e
+      pass : (i : ℕ) → f i ≡ false → T (passed plan.masks.seniors plan.masks.givers q (slot_at slots i).user (word_row ws i))
+      pass i e = un (passed plan.masks.seniors plan.masks.givers q (slot_at slots i).user (word_row ws i)) e
         where
           un : (b : Bool) → not b ≡ false → T b
           un true e = tt
           un false e = absurd (both_ways true e refl)
 
-      there : eqb (count f len) 0 ≡ true → Holds p t q
-      there e = here_holds k q (covers p s q list plan.roles plan.acts len plan.few plan.seats z.planned) z.semi t
-          (λ u r h. seated_looked p s q list plan.roles plan.acts len plan.few plan.seats z.planned u (y.others u r h))
+      there : eqb (count f (length slots)) 0 ≡ true → Holds p t q
+      there e = here_holds k q (covers p s q (slots_of plan) (few plan.slots) z.planned) z.semi t
+          (λ u r h. seated_looked p s q (slots_of plan) (few plan.slots) z.planned u (y.others u r h))
           (λ u u-user look.
-          let sit = looked_seated p s q list plan.roles plan.acts len plan.few plan.seats z.planned u look in
-          let (l, is) = slot_is p s q list plan.roles plan.acts len plan.few plan.seats z.planned u sit in
-          let i : ℕ = place (take len list) u in
+          let sit = looked_seated p s q (slots_of plan) (few plan.slots) z.planned u look in
+          let (l, is) = slot_is p s q (slots_of plan) (few plan.slots) z.planned u sit in
+          let i : ℕ = place slots u in
           subst (λ v. Rattle.policy.specs.Sets.In p (t v) v q.smaller → Rattle.policy.specs.Sets.In p (t v) v q.larger) is
-          (subst (λ row. Rattle.policy.specs.Sets.In p row (user_at list i) q.smaller → Rattle.policy.specs.Sets.In p row (user_at list i) q.larger) (y.rows i l)
-          (pass_in p plan.masks.seniors plan.masks.givers z.ranked (get_or list i no_user) (word_row ws i) (low i) q (pass i (count_none f len (eqb→eq (count f len) 0 (as_test (eqb (count f len) 0) e)) i l)))))
+          (subst (λ row. Rattle.policy.specs.Sets.In p row (user_at slots i) q.smaller → Rattle.policy.specs.Sets.In p row (user_at slots i) q.larger) (y.rows i l)
+          (pass_in p plan.masks.seniors plan.masks.givers z.ranked (slot_at slots i).user (word_row ws i) (low i) q (pass i (count_none f (length slots) (eqb→eq (count f (length slots)) 0 (as_test (eqb (count f (length slots)) 0) e)) i l)))))
 
-      back : Holds p t q → eqb (count f len) 0 ≡ true
-      back h = eq-eqb (count f len) 0 (none_count f len (λ i l.
-          ap not (as_true (passed plan.masks.seniors plan.masks.givers q (get_or list i no_user) (word_row ws i))
-          (in_pass p plan.masks.seniors plan.masks.givers z.ranked (get_or list i no_user) (word_row ws i) (low i) q
-          (subst⁻¹ (λ row. Rattle.policy.specs.Sets.In p row (user_at list i) q.smaller → Rattle.policy.specs.Sets.In p row (user_at list i) q.larger) (y.rows i l) (h (user_at list i) (z.planned.seats.inside i l)))))))
+      back : Holds p t q → eqb (count f (length slots)) 0 ≡ true
+      back h = eq-eqb (count f (length slots)) 0 (none_count f (length slots) (λ i l.
+          ap not (as_true (passed plan.masks.seniors plan.masks.givers q (slot_at slots i).user (word_row ws i))
+          (in_pass p plan.masks.seniors plan.masks.givers z.ranked (slot_at slots i).user (word_row ws i) (low i) q
+          (subst⁻¹ (λ row. Rattle.policy.specs.Sets.In p row (user_at slots i) q.smaller → Rattle.policy.specs.Sets.In p row (user_at slots i) q.larger) (y.rows i l) (h (user_at slots i) (z.planned.seats.inside i l)))))))
 
   -- as the code tests it
-  pub shows_is : (sought : Bool) (n : ℕ) (ws : List ℕ) (t : State) → n ≡ failing plan.masks.seniors plan.masks.givers q list ws len → Says list len ws t → eqb n 0 ≡ sought → Sought sought p q t
+  pub shows_is : (sought : Bool) (n : ℕ) (ws : List ℕ) (t : State) → n ≡ failing plan.masks.seniors plan.masks.givers q slots ws → Says slots ws t → eqb n 0 ≡ sought → Sought sought p q t
   shows_is true n ws t e y h = (decides_here ws t y).0 (ap (λ m. eqb m 0) (sym e) ∙ h)
   shows_is false n ws t e y h = λ i. both_ways (eqb n 0) h (ap (λ m. eqb m 0) e ∙ (decides_here ws t y).1 i)
 
-  pub shows_not : (sought : Bool) (n : ℕ) (ws : List ℕ) (t : State) → n ≡ failing plan.masks.seniors plan.masks.givers q list ws len → Says list len ws t → (eqb n 0 ≡ sought → ⊥) → Sought sought p q t → ⊥
+  pub shows_not : (sought : Bool) (n : ℕ) (ws : List ℕ) (t : State) → n ≡ failing plan.masks.seniors plan.masks.givers q slots ws → Says slots ws t → (eqb n 0 ≡ sought → ⊥) → Sought sought p q t → ⊥
   shows_not true n ws t e y off h = off (ap (λ m. eqb m 0) e ∙ (decides_here ws t y).1 h)
   shows_not false n ws t e y off h = go (eqb n 0) refl
     where
@@ -140,12 +139,11 @@ module _ (p : Policy) (s : State) (q : Question) (plan : Plan) (z : Ready p s q 
       go true eb = h ((decides_here ws t y).0 (ap (λ m. eqb m 0) (sym e) ∙ eb))
       go false eb = off eb
 
--- the users of the first steps have slots
-pub sitting_at : (list : List AUser) (len : ℕ) (xs : List RunStep) (n m : ℕ) (d : RunStep) → Sitting list len (take n xs) → m < n → m < length xs → T (seated list len (get_or xs m d).user.number)
-sitting_at list len [] n m d h l k = absurd (not-suc-le-zero k)
-sitting_at list len (x ∷ xs) zero m d h l k = absurd (not-suc-le-zero l)
-sitting_at list len (x ∷ xs) (suc n) zero d h l k = h.0
-sitting_at list len (x ∷ xs) (suc n) (suc m) d h l k = sitting_at list len xs n m d h.1 (omega arith) (omega arith)
+-- the users of the steps have slots
+pub sitting_at : (slots : List Slot) (xs : List RunStep) (m : ℕ) (d : RunStep) → Sitting slots xs → m < length xs → T (seated slots (get_or xs m d).user.number)
+sitting_at slots [] m d h l = absurd (not-suc-le-zero l)
+sitting_at slots (x ∷ xs) zero d h l = h.0
+sitting_at slots (x ∷ xs) (suc m) d h l = sitting_at slots xs m d h.1 (omega arith)
 
 -- one change more
 pub changes_more : (adds : Bool) (s : State) (xs : List RunStep) (m : ℕ) (d : RunStep) → m < length xs → end s (changes adds (take (suc m) xs)) ≡ after (change_of adds (get_or xs m d)) (end s (changes adds (take m xs)))
@@ -170,3 +168,9 @@ beq_off true true e h = both_ways true e refl
 beq_off true false e h = both_ways false refl (sym h)
 beq_off false true e h = both_ways false refl h
 beq_off false false e h = both_ways true e refl
+
+-- found after the whole run, or not at all
+pub found_by : (sought : Bool) (p : Policy) (s : State) (q : Question) (adds : Bool) (run : List RunStep) (b : Bool)
+    → (b ≡ true → FoundAt sought p s q adds run (Some (length run))) → (b ≡ false → FoundAt sought p s q adds run None) → FoundAt sought p s q adds run (then_some b (length run))
+found_by sought p s q adds run true hit miss = hit refl
+found_by sought p s q adds run false hit miss = miss refl

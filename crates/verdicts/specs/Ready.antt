@@ -9,6 +9,9 @@ use Rattle.deciding.specs.declared.runs.RunStep.{RunStep}
 use Rattle.deciding.specs.declared.plan.Slot.{Slot}
 use Rattle.deciding.specs.declared.plan.Plan.{Plan}
 use Rattle.deciding.specs.Slots.{slots_of}
+use Rattle.questions.specs.Inquired.{inquired}
+use Rattle.tables.specs.View.{policy_of, state_of}
+use Rattle.verdicts.specs.declared.case.Case.{Case}
 use Rattle.planning.specs.Plans.{Planned}
 use Rattle.planning.specs.Ranks.{Ranked}
 use Rattle.planning.specs.Seats.{seated}
@@ -20,6 +23,10 @@ pub record Ready (p : Policy) (s : State) (q : Question) (plan : Plan) : Type 0 
   pub measured : Measured p s
   pub regular : Regular p s
   pub semi : SemiStatic q
+
+-- the plan of a case is for its question, of its tables
+abbrev pub ReadyCase : Case → Type 0
+ReadyCase c = Ready (policy_of c.tables.now) (state_of c.tables.now) (inquired c.asked.now) c.plan.now
 
 -- each step is made on a user who has a slot
 abbrev pub Sitting : List Slot → List RunStep → Type 0

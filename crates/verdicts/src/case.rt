@@ -1,10 +1,8 @@
 // A question of a board, at the slots of its plan.
-ghost use Rattle.std.specs.Prelude.{◌≡◌, ◌<◌, T, length};
+ghost use Rattle.std.specs.Prelude.{◌≡◌, ℕ, ◌<◌, length};
 ghost use Rattle.rbac.specs.Roles.{roles_of};
-ghost use Rattle.bounded.specs.Entries.{entries};
 ghost use Rattle.questions.specs.Inquired.{inquired};
 ghost use Rattle.deciding.specs.Slots.{slots_of, user_at};
-ghost use Rattle.planning.specs.Seats.{seated};
 ghost use Rattle.verdicts.specs.Looking.{passed, failing as failing_count};
 
 use deciding::{Plan, Slot, in_set};
@@ -52,16 +50,16 @@ impl<'a> Case<'a> {
         }
         fails
     }
+}
 
-    // The slot of a user who has one.
-    pub(crate) fn slot_of(&self, user: User) -> usize
-        requires { T (seated (slots_of self.now.plan.now) user.number) }
-        ensures below { result < length (slots_of self.now.plan.now) }
-        ensures is { user_at (slots_of self.now.plan.now) result ≡ user.number }
-    {
-        match self.slots().iter().position(|slot| slot.user == user) {
-            Some(slot) => slot,
-            None => unreachable(),
-        }
+// The slot of a user who has one.
+pub(crate) fn slot_of(slots: &[Slot], user: User) -> usize
+    requires { (i : ℕ) × (i < length slots.now) × (user_at slots.now i ≡ user.number) }
+    ensures below { result < length slots.now }
+    ensures is { user_at slots.now result ≡ user.number }
+{
+    match slots.iter().position(|slot| slot.user == user) {
+        Some(slot) => slot,
+        None => unreachable(),
     }
 }

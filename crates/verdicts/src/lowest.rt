@@ -4,7 +4,7 @@ ghost use Rattle.policy.specs.Measures.{roles, list_places};
 ghost use Rattle.questions.specs.Inquired.{inquired};
 ghost use Rattle.deciding.specs.Slots.{slots_of};
 ghost use Rattle.tables.specs.View.{policy_of, state_of};
-ghost use Rattle.verdicts.specs.Ready.{Ready};
+ghost use Rattle.verdicts.specs.Ready.{ReadyCase};
 ghost use Rattle.verdicts.specs.Stripped.{Taken, Stripped};
 
 use crate::case::Case;
@@ -16,7 +16,7 @@ use rbac::Role;
 impl Case<'_> {
     // How the role is taken from the user of the slot, where it is assigned to that user and a revoke rule has it as target.
     fn taken(&self, slot: usize, role: Role) -> Option<RunStep>
-        requires ready { Ready (policy_of self.now.tables.now) (state_of self.now.tables.now) (inquired self.now.asked.now) self.now.plan.now }
+        requires ready { ReadyCase self.now }
         requires slot { slot < length (slots_of self.now.plan.now) }
         ensures { Taken (policy_of self.now.tables.now) (state_of self.now.tables.now) (slots_of self.now.plan.now) slot role.number result }
     {
@@ -36,7 +36,7 @@ impl Case<'_> {
 
     // Lists the steps that take all that can be taken, and returns their number. A fact is a slot and a role, so the facts are a plain range.
     pub(crate) fn strip(&self, list: &mut [RunStep]) -> usize
-        requires ready { Ready (policy_of self.now.tables.now) (state_of self.now.tables.now) (inquired self.now.asked.now) self.now.plan.now }
+        requires ready { ReadyCase self.now }
         requires room { list_places ≤ length list.old }
         ensures { Stripped (policy_of self.now.tables.now) (state_of self.now.tables.now) (slots_of self.now.plan.now) (roles * length (slots_of self.now.plan.now)) result list.new }
     {

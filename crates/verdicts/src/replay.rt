@@ -9,9 +9,9 @@ ghost use Rattle.tables.specs.View.{policy_of, state_of};
 ghost use Rattle.deciding.specs.Slots.{slots_of};
 ghost use Rattle.planning.specs.Seats.{seated};
 ghost use Rattle.verdicts.specs.Looking.{failing as failing_count, Says, change_of, one, turned, FoundAt};
-ghost use Rattle.verdicts.specs.Ready.{Ready, Sitting};
+ghost use Rattle.verdicts.specs.Ready.{ReadyCase, Sitting};
 
-use crate::case::Case;
+use crate::case::{Case, slot_of};
 use deciding::RunStep;
 use rbac::{Role, RoleSet};
 
@@ -43,13 +43,13 @@ impl Case<'_> {
     fn make(&self, step: RunStep, adds: bool, work: &mut [u64], fails: usize) -> usize
         requires room { tracked_users ≤ length work.old }
         requires seat { T (seated (slots_of self.now.plan.now) step.user.number) }
-        requires ready { Ready (policy_of self.now.tables.now) (state_of self.now.tables.now) (inquired self.now.asked.now) self.now.plan.now }
+        requires ready { ReadyCase self.now }
         requires before { fails ≡ failing_count self.now.plan.now.masks.seniors self.now.plan.now.masks.givers (inquired self.now.asked.now) (slots_of self.now.plan.now) work.old }
         ensures count { result ≡ failing_count self.now.plan.now.masks.seniors self.now.plan.now.masks.givers (inquired self.now.asked.now) (slots_of self.now.plan.now) work.new }
         ensures says { (t : State) → Says (slots_of self.now.plan.now) work.old t → Says (slots_of self.now.plan.now) work.new (after (change_of adds step) t) }
         ensures room { length work.new ≡ length work.old }
     {
-        let slot = self.slot_of(step.user);
+        let slot = slot_of(self.slots(), step.user);
         let roles = RoleSet::from_word(work[slot]);
         let next = turn(roles, step.role, adds);
         let was = self.passes(step.user, roles);
@@ -68,7 +68,7 @@ impl Case<'_> {
     ) -> Option<usize>
         requires room { tracked_users ≤ length work.old }
         requires sitting { Sitting (slots_of self.now.plan.now) run.now }
-        requires ready { Ready (policy_of self.now.tables.now) (state_of self.now.tables.now) (inquired self.now.asked.now) self.now.plan.now }
+        requires ready { ReadyCase self.now }
         requires start { Says (slots_of self.now.plan.now) work.old (state_of self.now.tables.now) }
         ensures { FoundAt sought (policy_of self.now.tables.now) (state_of self.now.tables.now) (inquired self.now.asked.now) adds run.now result }
     {

@@ -1,5 +1,5 @@
 // Who can take which role.
-ghost use Rattle.std.specs.Prelude.{◌≡◌, ℕ, ◌<◌, true, T, length};
+ghost use Rattle.std.specs.Prelude.{◌≡◌, ℕ, ◌<◌, true, T, length, position};
 ghost use Rattle.rbac.specs.Roles.{roles_of};
 ghost use Rattle.deciding.specs.Slots.{slot_at};
 ghost use Rattle.tables.specs.View.{policy_of};
@@ -8,14 +8,20 @@ ghost use Rattle.verdicts.specs.Revoking.{RevokedBy};
 use crate::revoker::Revoker;
 use deciding::Slot;
 use rbac::Role;
-use tables::Tables;
+use tables::{RevokeEntry, Tables};
+
+fn first_with(rules: &[RevokeEntry], role: Role) -> Option<usize>
+    ensures { result ≡ position (λ (x : _). roles_of x.targets role.number) rules.now }
+{
+    rules.iter().position(|rule| rule.targets.contains(role))
+}
 
 // The first revoke rule that has the target.
 pub(crate) fn revoker(tables: &Tables, role: Role) -> Option<Revoker>
     ensures { RevokedBy (policy_of tables.now).revokes role.number result }
 {
     let rules = tables.revokes.entries();
-    let at = rules.iter().position(|rule| rule.targets.contains(role))?;
+    let at = first_with(rules, role)?;
     Some(Revoker {
         rule: (at + 1) as u8,
         admin: rules[at].admin,

@@ -7,7 +7,7 @@ ghost use Rattle.tables.specs.View.{policy_of, state_of};
 ghost use Rattle.deciding.specs.Delegates.{AllWhole};
 ghost use Rattle.deciding.specs.Slots.{slots_of, slot_at};
 ghost use Rattle.verdicts.specs.Looking.{Says};
-ghost use Rattle.verdicts.specs.Ready.{Ready};
+ghost use Rattle.verdicts.specs.Ready.{ReadyCase};
 ghost use Rattle.verdicts.specs.Candidates.{Candidate};
 
 use crate::case::Case;
@@ -29,7 +29,7 @@ pub(crate) fn fill(work: &mut [u64], slots: &[Slot])
 impl Case<'_> {
     // Lists a run at whose end the question is decided, and returns the number of its steps.
     pub(crate) fn run_to(&self, place: Place, list: &mut [RunStep], work: &mut [u64]) -> usize
-        requires ready { Ready (policy_of self.now.tables.now) (state_of self.now.tables.now) (inquired self.now.asked.now) self.now.plan.now }
+        requires ready { ReadyCase self.now }
         requires whole { AllWhole (entries self.now.tables.now.assigns) }
         requires start { Says (slots_of self.now.plan.now) work.old (state_of self.now.tables.now) }
         requires room { tracked_users ≤ length work.old }

@@ -5,7 +5,7 @@ ghost use Rattle.bounded.specs.Entries.{entries};
 ghost use Rattle.tables.specs.View.{policy_of, state_of};
 ghost use Rattle.questions.specs.Inquired.{inquired};
 ghost use Rattle.deciding.specs.Delegates.{AllWhole};
-ghost use Rattle.verdicts.specs.Ready.{Ready};
+ghost use Rattle.verdicts.specs.Ready.{ReadyCase};
 ghost use Rattle.verdicts.specs.Candidates.{adds_to};
 ghost use Rattle.verdicts.specs.Verdict.{sought_by, Decided, Settled};
 
@@ -55,7 +55,7 @@ fn blank() -> RunStep {
 impl Case<'_> {
     // Decides the question with tables that are long enough.
     fn decide_in(&self, list: &mut [RunStep], work: &mut [u64]) -> Verdict
-        requires ready { Ready (policy_of self.now.tables.now) (state_of self.now.tables.now) (inquired self.now.asked.now) self.now.plan.now }
+        requires ready { ReadyCase self.now }
         requires whole { AllWhole (entries self.now.tables.now.assigns) }
         requires places { list_places ≤ length list.old }
         requires room { tracked_users ≤ length work.old }

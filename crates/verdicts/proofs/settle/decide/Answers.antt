@@ -6,7 +6,7 @@ use Rattle.verdicts.proofs.settle.decide.Goals as goal
 
 pub decide_in-requires : goal.decide_in-requires
 decide_in-requires c =
-    let e = c.plan_of-plan.ensures in
+    let e = c.plan_of.ensures in
     let board = sound c.args.board.now in
     record {
       ready = record { planned = e.planned; ranked = e.ranked; measured = e.measured; regular = board.regular; semi = (askable c.args.asked.now).is_semi_static };

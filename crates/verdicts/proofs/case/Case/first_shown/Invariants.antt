@@ -1,0 +1,17 @@
+use Rattle.std.proofs.Common.{◌≡◌, ℕ, ◌<◌, ◌≤◌, length, take}
+use Rattle.policy.specs.Runs.{end}
+use Rattle.questions.specs.Inquired.{inquired}
+use Rattle.tables.specs.View.{policy_of, state_of}
+use Rattle.deciding.specs.Slots.{slots_of}
+use Rattle.verdicts.specs.Looking.{failing, Says, Sought, changes}
+use Rattle.verdicts.proofs.case.Case.first_shown.Given as goal
+
+abbrev pub invariant-loop-made : goal.invariant-loop-made
+invariant-loop-made l =
+    let x = l.self.plan.now in
+    let q = inquired l.self.asked.now in
+    let slots = slots_of x in
+    (133 ≤ length l.work)
+    × (l.fails ≡ failing x.masks.seniors x.masks.givers q slots l.work)
+    × Says slots l.work (end (state_of l.self.tables.now) (changes l.adds (take l.made l.run)))
+    × ((j : ℕ) → j < l.made → Sought l.sought (policy_of l.self.tables.now) q (end (state_of l.self.tables.now) (changes l.adds (take j l.run))) → ⊥)
