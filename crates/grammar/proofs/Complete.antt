@@ -1,5 +1,5 @@
 -- A phrase that stands in the text is scanned to its end, and counted.
-use Rattle.std.proofs.Common.{◌≡◌, ℕ, suc, ◌+◌, max, Bool, true, false, ◌&&◌, List, [], ◌∷◌, ◌++◌, decimal, sym, refl, ap, ◌∙◌, append_assoc, arith}
+use Rattle.std.proofs.Common.{◌≡◌, ℕ, suc, ◌+◌, max, Bool, false, ◌&&◌, List, [], ◌∷◌, ◌++◌, decimal, sym, refl, ap, ◌∙◌, append_assoc, arith}
 use Rattle.grammar.specs.declared.sizes.Size.{Size}
 use Rattle.grammar.specs.declared.sizes.Mode.{Mode}
 use Rattle.grammar.specs.declared.sizes.Mode.TheVariants.{Operand, Sign, User, Comma, Another}
@@ -15,8 +15,7 @@ abbrev pub join : Size → Size → Size
 join a b = record { operands = a.operands + b.operands; levels = max a.levels b.levels; fits = a.fits && b.fits; fixed = a.fixed && b.fixed; roles = a.roles && b.roles }
 
 pub and_assoc : (a b c : Bool) → ((a && b) && c) ≡ (a && (b && c))
-and_assoc true b c = refl
-and_assoc false b c = refl
+and_assoc a b c = grind arith
 
 max_at : (m d a b : ℕ) → max (max m (d + a)) (d + b) ≡ max m (d + max a b)
 max_at m d a b = omega arith

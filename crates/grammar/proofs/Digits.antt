@@ -15,7 +15,7 @@ module _ (p : ℕ → Bool) where
   run_is (b ∷ bs) (suc n) le each stops = cond-true _ _ _ (sym (each 0 (omega arith))) ∙ ap suc (run_is bs n (omega arith) (λ k l. each (suc k) (omega arith)) (λ l. stops (omega arith)))
 
   run_cases : (b : ℕ) (x : ℕ) (m : ℕ) → x ≤ m → cond (p b) (suc x) 0 ≤ suc m
-  run_cases b x m h = elim (p b) as (λ v. cond v (suc x) 0 ≤ suc m) [ true ↦ omega arith | false ↦ omega arith ]
+  run_cases b x m h = grind arith
 
   pub run_le : (s : List ℕ) → run p s ≤ length s
   run_le [] = omega arith
@@ -90,8 +90,7 @@ module _ (p : ℕ → Bool) where
   run_none (b ∷ bs) h = cond-false _ _ _ h
 
 front_zero : (k : ℕ) (s : List ℕ) → begins_zero (take (suc k) s) ≡ begins_zero s
-front_zero k [] = refl
-front_zero k (b ∷ bs) = refl
+front_zero k s = grind arith
 
 front_good : (k : ℕ) (s : List ℕ) → well_formed k (take k s) ≡ well_formed k s
 front_good zero s = refl
@@ -103,8 +102,7 @@ onto (got n x) y = got n y
 onto none y = none
 
 onto_cond : (b : Bool) (n : ℕ) (x y : List ℕ) → onto (cond b (got n x) none) y ≡ cond b (got n y) none
-onto_cond true n x y = refl
-onto_cond false n x y = refl
+onto_cond b n x y = grind arith
 
 pub number_front : (s : List ℕ) → number s ≡ onto (number (take (run is_digit s) s)) (drop (run is_digit s) s)
 unfolding number
@@ -128,16 +126,14 @@ letter_no_digit [] h = refl
 letter_no_digit (b ∷ bs) h = let l = leb-true 97 b (and_parts (leb 97 b) (leb b 122) h).0 in ap (λ v. leb 48 b && v) (lt-leb b 57 (omega arith)) ∙ no (leb 48 b)
   where
     no : (v : Bool) → (v && false) ≡ false
-    no true = refl
-    no false = refl
+    no v = grind arith
 
 -- the digits that a token holds, read alone
 pub digits_whole : (s d : List ℕ) → d ≡ take (run is_digit s) s → length d ≡ run is_digit d
 digits_whole s d e = ap length e ∙ length-take-le (run is_digit s) s (run_le is_digit s) ∙ sym (run_front is_digit s) ∙ ap (run is_digit) (sym e)
 
 onto_taken : (r : Option ℕ) (x y : List ℕ) → onto (taken r x) y ≡ taken r y
-onto_taken (Some n) x y = refl
-onto_taken None x y = refl
+onto_taken r x y = grind arith
 
 pub digits_number : (s d after : List ℕ) (r : Option ℕ) → Cut (run is_digit s) d s after → number d ≡ taken r [] → number s ≡ taken r after
 digits_number s d after r (e, f) h =

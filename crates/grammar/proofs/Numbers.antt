@@ -1,6 +1,7 @@
 -- A number is read exactly where it is written.
-use Rattle.std.proofs.Common.{◌≡◌, ℕ, zero, suc, ◌^◌, ◌<◌, ◌≤◌, Bool, true, false, cond, not, ◌&&◌, ◌||◌, ltb, leb, ◌⊎◌, List, [], ◌∷◌, ◌++◌, length, get_or, take, drop, decimal, sym, refl, ap, ◌∙◌, subst, inl, inr, arith, rules, ltb-true, eq-eqb, ne_eqb, leb-true}
+use Rattle.std.proofs.Common.{◌≡◌, ℕ, zero, suc, ◌^◌, ◌<◌, ◌≤◌, Bool, true, false, cond, not, ◌&&◌, ◌||◌, ltb, leb, ◌⊎◌, List, [], ◌∷◌, ◌++◌, length, get_or, take, drop, decimal, sym, refl, ap, ◌∙◌, inl, inr, arith, rules, ltb-true, eq-eqb, ne_eqb, leb-true}
 use Rattle.std.specs.Str.{all_ascii_digits}
+use Rattle.std.proofs.Math.Seq.{take-append_seam, drop-append_seam}
 use Rattle.std.proofs.lemmas.List.{take-append-drop, length-take-le}
 use Rattle.std.proofs.lemmas.Bool.{cond-true, cond-false, and_parts, and_from}
 use Rattle.std.proofs.lemmas.Str.Parse.{IsNumeralModel, numerals_by_fold, tells_all_ascii_digits, digits_value_short}
@@ -15,14 +16,6 @@ run_digits : (ds x : List ℕ) → all_ascii_digits ds ≡ true → begins_digit
 run_digits [] [] h n = refl
 run_digits [] (b ∷ bs) h n = cond-false _ _ _ n
 run_digits (c ∷ cs) x h n = let p = and_parts (is_digit c) (all_ascii_digits cs) h in cond-true _ _ _ p.0 ∙ ap suc (run_digits cs x p.1 n)
-
-take_front : (ds x : List ℕ) → take (length ds) (ds ++ x) ≡ ds
-take_front [] x = refl
-take_front (c ∷ cs) x = ap (λ l. c ∷ l) (take_front cs x)
-
-drop_front : (ds x : List ℕ) → drop (length ds) (ds ++ x) ≡ x
-drop_front [] x = refl
-drop_front (c ∷ cs) x = drop_front cs x
 
 no_zero : (ds x : List ℕ) → 48 < get_or ds 0 0 → begins_zero (ds ++ x) ≡ false
 no_zero [] x h = absurd (omega arith)
@@ -39,9 +32,9 @@ number_written n x h e =
     let k : run is_digit (ds ++ x) ≡ length ds = run_digits ds x (digits_decimal own n (omega arith)) e in
     let l : length ds ≤ 5 = length-decimal-le 5 n (omega arith) (omega arith) (omega arith) in
     number_is (ds ++ x) (length ds) (sym k) (number_good (ds ++ x) (length ds) (decimal_nonempty n (omega arith)) l (first_way n x h))
-    ∙ ap (λ l. got (value 0 l) (drop (length ds) (ds ++ x))) (take_front ds x)
+    ∙ ap (λ l. got (value 0 l) (drop (length ds) (ds ++ x))) (take-append_seam ds x)
     ∙ ap (λ v. got v (drop (length ds) (ds ++ x))) (digits_value-decimal own n (omega arith))
-    ∙ ap (got n) (drop_front ds x)
+    ∙ ap (got n) (drop-append_seam ds x)
 
 run_all_digits : (s : List ℕ) → all_ascii_digits (take (run is_digit s) s) ≡ true
 run_all_digits [] = refl
@@ -57,11 +50,7 @@ first_zero (b ∷ bs) zero l h e = absurd (omega arith)
 first_zero (b ∷ bs) (suc k) l h e = eq-eqb b 48 e
 
 one_only : (k : ℕ) (b : Bool) → b ≡ true → (leb k 1 || not b) ≡ true → k ≤ 1
-one_only k b e h = go (leb k 1) refl (subst (λ v. (leb k 1 || not v) ≡ true) e h)
-  where
-    go : (v : Bool) → leb k 1 ≡ v → (v || false) ≡ true → k ≤ 1
-    go true q r = leb-true k 1 q
-    go false q r = let z : ◌≡◌ {A = ℕ} 0 1 = cc in absurd (omega arith)
+one_only k b e h = grind arith
 
 -- what is read is written
 pub number_read : (s x : List ℕ) (n : ℕ) → number s ≡ got n x → (s ≡ decimal n ++ x) × (n < 100000)
@@ -84,4 +73,4 @@ number_read s x n e = go (well_formed (run is_digit s) s) refl e
         let zero-first : get_or (take k s) 0 0 ≡ 48 → length (take k s) ≡ 1 = λ z. let o : k ≤ 1 = one_only k (begins_zero s) (first_zero s k le some z) q.1 in omega arith in
         let t : decimal (value 0 (take k s)) ≡ take k s = decimal-digits_value own (take k s) digits (omega arith) zero-first (omega arith) in
         (sym (take-append-drop k s) ∙ ap (λ l. l ++ drop k s) (sym t) ∙ ap (λ m. decimal m ++ drop k s) v ∙ ap (λ l. decimal n ++ l) d, omega arith)
-    go false w h = let z : ◌≡◌ {A = ℕ} 0 1 = cc in absurd (omega arith)
+    go false w h = cc

@@ -6,24 +6,13 @@ use Rattle.grammar.specs.declared.sizes.Mode.{Mode}
 use Rattle.grammar.specs.Text.{got, number}
 use Rattle.grammar.specs.Scan.{Next, go, stop, bad, step, ok, no, onward, runs, scanned, Room}
 use Rattle.grammar.proofs.Numbers.{number_read}
-use Rattle.grammar.proofs.Steps.{Move, opens, a_role, a_permission, none_in, enters, joins_or, joins_and, closes, a_user, comma, leaves, another, moves}
+use Rattle.grammar.proofs.Steps.{Move, moves}
 
 pub number_less : (s x : List ℕ) (n : ℕ) → number s ≡ got n x → length x ≤ length s
 number_less s x n e = let r = ap length (number_read s x n e).0 in let a : length (decimal n ++ x) ≡ length (decimal n) + length x = length-append (decimal n) x in omega arith
 
 less : {k : Mode} {d : ℕ} {m : Size} {s : List ℕ} {q : State} {x : List ℕ} → Move k d m s q x → length x < length s
-less opens = omega arith
-less (a_role {s = s} n x e) = let h = number_less s x n e in omega arith
-less (a_permission {s = s} n x e) = let h = number_less s x n e in omega arith
-less none_in = omega arith
-less enters = omega arith
-less joins_or = omega arith
-less joins_and = omega arith
-less closes = omega arith
-less (a_user {s = s} n x e) = let h = number_less s x n e in omega arith
-less comma = omega arith
-less leaves = omega arith
-less (another {s = s} n x e) = let h = number_less s x n e in omega arith
+less h = grind (arith, number_less)
 
 pub step_less : (q : State) (s : List ℕ) (p : State) (x : List ℕ) → step q s ≡ go p x → length x < length s
 unfolding step
@@ -31,18 +20,7 @@ step_less q s p x e = less (moves q.mode q.depth q.size s p x e)
 
 -- a step that goes on keeps room for each count
 roomy : {k : Mode} {d : ℕ} {m : Size} {s : List ℕ} {q : State} {x : List ℕ} → Move k d m s q x → length x < length s → d + length s < 2 ^ 64 → m.operands + length s < 2 ^ 64 → Room q x
-roomy opens l a b = record { deep = omega arith; many = omega arith }
-roomy (a_role n x e) l a b = record { deep = omega arith; many = omega arith }
-roomy (a_permission n x e) l a b = record { deep = omega arith; many = omega arith }
-roomy none_in l a b = record { deep = omega arith; many = omega arith }
-roomy enters l a b = record { deep = omega arith; many = omega arith }
-roomy joins_or l a b = record { deep = omega arith; many = omega arith }
-roomy joins_and l a b = record { deep = omega arith; many = omega arith }
-roomy closes l a b = record { deep = omega arith; many = omega arith }
-roomy (a_user n x e) l a b = record { deep = omega arith; many = omega arith }
-roomy comma l a b = record { deep = omega arith; many = omega arith }
-roomy leaves l a b = record { deep = omega arith; many = omega arith }
-roomy (another n x e) l a b = record { deep = omega arith; many = omega arith }
+roomy h l a b = grind arith
 
 pub step_room : (q : State) (s : List ℕ) (p : State) (x : List ℕ) → step q s ≡ go p x → Room q s → Room p x
 unfolding step
@@ -74,10 +52,10 @@ fails q s e = ap (λ n. onward n q.size s (runs (length s))) e
 -- the first turn of a scanning that ends well
 pub first_turn : (f : ℕ) (q : State) (s x : List ℕ) (e : Size) → runs f q s ≡ ok e x →
     (g : ℕ) × (f ≡ suc g) × (((p : State) × (s1 : List ℕ) × (step q s ≡ go p s1) × (runs g p s1 ≡ ok e x)) ⊎ ((step q s ≡ stop x) × (q.size ≡ e)))
-first_turn zero q s x e h = let z : ◌≡◌ {A = ℕ} 0 1 = cc in absurd (omega arith)
+first_turn zero q s x e h = cc
 first_turn (suc g) q s x e h = (g, refl, split (step q s) refl h)
   where
     split : (n : Next) → step q s ≡ n → onward n q.size s (runs g) ≡ ok e x → ((p : State) × (s1 : List ℕ) × (step q s ≡ go p s1) × (runs g p s1 ≡ ok e x)) ⊎ ((step q s ≡ stop x) × (q.size ≡ e))
     split (go p s1) w k = inl (p, s1, w, k)
     split (stop y) w k = inr (w ∙ ap stop (cc k), cc)
-    split bad w k = let z : ◌≡◌ {A = ℕ} 0 1 = cc in absurd (omega arith)
+    split bad w k = cc

@@ -4,7 +4,7 @@ use Rattle.grammar.specs.declared.sizes.Size.{Size}
 use Rattle.grammar.specs.declared.sizes.State.{State}
 use Rattle.grammar.specs.declared.sizes.Mode.{Mode}
 use Rattle.grammar.specs.declared.sizes.Mode.TheVariants.{Operand, Sign, User, Comma, Another}
-use Rattle.grammar.specs.Text.{Read, got, none, number}
+use Rattle.grammar.specs.Text.{Read, number}
 use Rattle.grammar.specs.Phrase as P
 use Rattle.policy.specs.Sets.{UserSet, members, holders, only}
 use Rattle.grammar.specs.Phrase.{Kind, set, term, factor, users, Phrase, one, or, lone, and, no_users, braces, parens, also, render, meaning, levels, Short, Written, Ends}
@@ -86,14 +86,13 @@ pick_never {x} c s f o a b e = split (pick_ways c s f o _ e)
     split (inr w) = b w.1
 
 leaf_never : {x : List ℕ} (k : Mode) (mk : ℕ → UserSet) (l d : ℕ) (m : Size) (r : Read) → leaf k mk l d m r ≡ stop x → ⊥
-leaf_never k mk l d m (got n s) e = let z : ◌≡◌ {A = ℕ} 0 1 = cc in omega arith
-leaf_never k mk l d m none e = let z : ◌≡◌ {A = ℕ} 0 1 = cc in omega arith
+leaf_never k mk l d m r e = grind arith
 
 go_never : {x : List ℕ} (q : State) (s : List ℕ) → go q s ≡ stop x → ⊥
-go_never q s e = let z : ◌≡◌ {A = ℕ} 0 1 = cc in omega arith
+go_never q s e = cc
 
 bad_never : {x : List ℕ} → bad ≡ stop x → ⊥
-bad_never e = let z : ◌≡◌ {A = ℕ} 0 1 = cc in omega arith
+bad_never e = cc
 
 operand_never : {x : List ℕ} (d : ℕ) (m : Size) (s : List ℕ) → step_at Operand d m s ≡ stop x → ⊥
 operand_never d m s = pick_never 40 s _ _ (λ y. go_never _ y) (pick_never 114 s _ _ (λ y. leaf_never Sign members 0 d m (number y)) (pick_never 112 s _ _ (λ y. leaf_never Sign holders 0 d m (number y)) (pick_never 123 s _ _ (λ y. pick_never 125 y _ _ (λ z. go_never _ z) (go_never _ y)) bad_never)))
@@ -286,6 +285,6 @@ scanned_is s x (Some m) h = record {
   real = λ z e. let b : m ≡ z = cc in let f = sound s x m h in (f.0, f.1, sym b ∙ f.2);
 }
 scanned_is s x None h = record {
-  found = λ p y w n. let e : no ≡ ok (size_of p) y = sym h ∙ found s y p w n in let z : ◌≡◌ {A = ℕ} 0 1 = cc in absurd (omega arith);
-  real = λ z e. let z : ◌≡◌ {A = ℕ} 0 1 = cc in absurd (omega arith);
+  found = λ p y w n. let e : no ≡ ok (size_of p) y = sym h ∙ found s y p w n in cc;
+  real = λ z e. cc;
 }

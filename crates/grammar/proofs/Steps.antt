@@ -45,10 +45,10 @@ pub data Move : Mode → ℕ → Size → List ℕ → State → List ℕ → Ty
 
 leaf_goes : (k : Mode) (mk : ℕ → UserSet) (l d : ℕ) (m : Size) (r : Read) (q : State) (x : List ℕ) → leaf k mk l d m r ≡ go q x → (n : ℕ) × (r ≡ got n x) × (q ≡ at k d (grow d m (sized (mk n) l)))
 leaf_goes k mk l d m (got n s) q x e = let a : s ≡ x = cc in (n, ap (got n) a, cc)
-leaf_goes k mk l d m none q x e = let z : ◌≡◌ {A = ℕ} 0 1 = cc in absurd (omega arith)
+leaf_goes k mk l d m none q x e = cc
 
 never : {A : Type 0} (q : State) (x : List ℕ) → bad ≡ go q x → A
-never q x e = let z : ◌≡◌ {A = ℕ} 0 1 = cc in absurd (omega arith)
+never q x e = cc
 
 -- a step whose text and state are known up to equations
 moved : (k : Mode) (d : ℕ) (m : Size) (s s1 x y : List ℕ) (q p : State) → s ≡ s1 → q ≡ p → x ≡ y → Move k d m s1 p y → Move k d m s q x
@@ -79,7 +79,7 @@ moves Operand d m s q x e = first (pick_ways 40 s _ _ _ e)
 moves Sign d m s q x e = first (pick_ways 124 s _ _ _ e)
   where
     shut : (b : ℕ) → d ≡ b → close b m s ≡ go q x → Move Sign d m s q x
-    shut zero h k = let z : ◌≡◌ {A = ℕ} 0 1 = cc in absurd (omega arith)
+    shut zero h k = cc
     shut (suc b) h k = subst (λ j. Move Sign j m s q x) (sym h) (last (pick_ways 41 s _ _ _ k))
       where
         last : Way 41 s (λ s1. go (at Sign b m) s1) bad (go q x) → Move Sign (suc b) m s q x
@@ -118,16 +118,13 @@ abbrev pub leaf_of : Mode → ℕ → ℕ → Bool → Bool → Leaf
 leaf_of k limit l f a = record { then = k; limit = limit; size = record { operands = 1; levels = l; fits = true; fixed = f; roles = a } }
 
 pub leaf_role : (d : ℕ) (m : Size) (r : Read) → leaf Sign members 0 d m r ≡ leaf_by (leaf_of Sign 64 0 false true) d m r
-leaf_role d m (got n s) = refl
-leaf_role d m none = refl
+leaf_role d m r = grind arith
 
 pub leaf_permission : (d : ℕ) (m : Size) (r : Read) → leaf Sign holders 0 d m r ≡ leaf_by (leaf_of Sign 32 0 false false) d m r
-leaf_permission d m (got n s) = refl
-leaf_permission d m none = refl
+leaf_permission d m r = grind arith
 
 leaf_user : (l d : ℕ) (m : Size) (r : Read) → leaf Comma only l d m r ≡ leaf_by (leaf_of Comma 65536 l true false) d m r
-leaf_user l d m (got n s) = refl
-leaf_user l d m none = refl
+leaf_user l d m r = grind arith
 
 -- a user behind a brace and one behind a comma differ in their levels alone
 pub users_step : (l d : ℕ) (m : Size) (s : List ℕ) → pick 117 s (λ s1. leaf Comma only l d m (number s1)) bad ≡ user_step (leaf_of Comma 65536 l true false) d m s

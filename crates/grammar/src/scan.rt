@@ -7,6 +7,7 @@ use crate::reader::Reader;
 use crate::sizes::{Leaf, Mode, Size, State};
 use policy::{PERMISSIONS, ROLES, USERS};
 
+// What each kind of operand is, written out in full: a constant's value takes no `..`.
 const ROLE: Leaf = Leaf {
     then: Mode::Sign,
     limit: ROLES as u32,

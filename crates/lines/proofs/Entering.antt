@@ -1,16 +1,15 @@
 -- An entry is read exactly where it is written.
-use Rattle.std.proofs.Common.{◌≡◌, ℕ, ◌+◌, ◌<◌, ◌≤◌, Bool, true, false, cond, eqb, List, [], ◌∷◌, ◌++◌, length, drop, decimal, sym, refl, ap, ◌∙◌, ⊎_elim, arith, length-append, eq-eqb, ne_eqb, eqb-true}
+use Rattle.std.proofs.Common.{◌≡◌, ℕ, ◌+◌, ◌<◌, Bool, true, false, cond, eqb, List, [], ◌∷◌, ◌++◌, length, decimal, sym, refl, ap, ◌∙◌, arith, length-append, eq-eqb, eqb-true}
 use borrow.Author.Tests.{clash}
-use Rattle.std.proofs.lemmas.Bool.{cond-true, cond-false, cases_eq}
-use Rattle.std.proofs.lemmas.List.{drop_all, drop_more}
-use Rattle.grammar.specs.Text.{begins, begins_digit, Read, got, none, number}
+use Rattle.std.proofs.lemmas.Bool.{cond-true, cond-false}
+use Rattle.grammar.specs.Text.{begins, begins_digit, is_nil, Read, got, none, number}
 use Rattle.grammar.proofs.Numbers.{number_written, number_read}
-use Rattle.lines.specs.Entries.{entries, is_nil, after, entry_at}
+use Rattle.lines.specs.Entries.{entries, after, entry_at}
 
-pub after_take : (c : ℕ) (s s1 : List ℕ) (f : List ℕ → Read) → s ≡ c ∷ s1 → after c s f ≡ f s1
+after_take : (c : ℕ) (s s1 : List ℕ) (f : List ℕ → Read) → s ≡ c ∷ s1 → after c s f ≡ f s1
 after_take c s s1 f e = ap (λ l. after c l f) e ∙ cond-true (eqb c c) (f s1) none (eq-eqb c c refl)
 
-pub after_not : (c : ℕ) (s : List ℕ) (f : List ℕ → Read) → begins c s ≡ false → after c s f ≡ none
+after_not : (c : ℕ) (s : List ℕ) (f : List ℕ → Read) → begins c s ≡ false → after c s f ≡ none
 after_not c [] f e = refl
 after_not c (b ∷ bs) f e = cond-false (eqb b c) (f bs) none e
 
@@ -21,6 +20,19 @@ after_got c (b ∷ bs) x n f e = split (eqb b c) refl e
     split : (v : Bool) → eqb b c ≡ v → cond v (f bs) none ≡ got n x → (s1 : List ℕ) × (b ∷ bs ≡ c ∷ s1) × (f s1 ≡ got n x)
     split true h k = (bs, ap (λ y. y ∷ bs) (eqb-true b c h), k)
     split false h k = let z : ◌≡◌ {A = ℕ} 0 1 = cc in absurd (omega arith)
+
+-- an entry that a sign is missing from
+pub entry_no_blank : (c : ℕ) (s : List ℕ) → begins 32 s ≡ false → entry_at c s ≡ none
+unfolding entry_at
+entry_no_blank c s e = after_not 32 s (λ s1. after c s1 number) e
+
+pub entry_no_letter : (c : ℕ) (s s1 : List ℕ) → s ≡ 32 ∷ s1 → begins c s1 ≡ false → entry_at c s ≡ none
+unfolding entry_at
+entry_no_letter c s s1 e f = after_take 32 s s1 (λ s1. after c s1 number) e ∙ after_not c s1 number f
+
+pub entry_number : (c : ℕ) (s s1 s2 : List ℕ) → s ≡ 32 ∷ s1 → s1 ≡ c ∷ s2 → entry_at c s ≡ number s2
+unfolding entry_at
+entry_number c s s1 s2 e f = after_take 32 s s1 (λ s1. after c s1 number) e ∙ after_take c s1 s2 number f
 
 pub entry_written : (c n : ℕ) (x : List ℕ) → n < 100000 → begins_digit x ≡ false → entry_at c (32 ∷ c ∷ (decimal n ++ x)) ≡ got n x
 unfolding entry_at
@@ -42,12 +54,6 @@ entries_first c [] = refl
 entries_first c (n ∷ ns) = refl
 
 -- nothing is left exactly at the end
-pub nil_eqb : (t : List ℕ) (p : ℕ) → p ≤ length t → eqb p (length t) ≡ is_nil (drop p t)
-nil_eqb t p h = ⊎_elim
-    (λ (e : p ≡ length t). eq-eqb p (length t) e ∙ sym (ap is_nil (drop_all p t (omega arith))))
-    (λ (n : p ≡ length t → ⊥). ne_eqb p (length t) n ∙ sym (ap is_nil (drop_more t p 0 (omega (arith, n)))))
-    (cases_eq p (length t))
-
 pub nil_is : (s : List ℕ) → is_nil s ≡ true → s ≡ []
 nil_is [] e = refl
 nil_is (b ∷ bs) e = absurd (clash e)

@@ -1,9 +1,9 @@
 -- The ground of the smallest number, from what is known of every form that a text says.
-use Rattle.std.proofs.Common.{◌≡◌, ℕ, ◌<◌, Bool, true, false, List, Some, None, Option, sym, ◌∙◌, subst, arith}
+use Rattle.std.proofs.Common.{◌≡◌, ℕ, ◌<◌, Bool, true, false, List, Ok, Err, Result, sym, refl, ◌∙◌, subst, arith}
 use borrow.Author.Tests.{clash}
 use Rattle.grammar.specs.declared.grounds.Ground.{Ground}
 use Rattle.grammar.specs.declared.grounds.Ground.TheVariants.{Syntax, Range, Measure, NotSemiStatic}
-use Rattle.lines.specs.Languages.{Language, Says, Refuses, number_of, Least, Unrefused, judged}
+use Rattle.lines.specs.Languages.{Language, Says, Refuses, number_of, Least, Unrefused, Told, judged}
 
 -- some form says the text, and every such form answers the three questions alike
 pub record Weighed (L : Language) (s : List ℕ) (a b c : Bool) : Type 0 where
@@ -12,9 +12,9 @@ pub record Weighed (L : Language) (s : List ℕ) (a b c : Bool) : Type 0 where
   pub small : (f : L.Form) → Says L s f → L.small f ≡ b
   pub semi_static : (f : L.Form) → Says L s f → L.semi_static f ≡ c
 
-abbrev pub Verdict : Language → List ℕ → Option Ground → Type 0
-Verdict L s (Some g) = Least L s g
-Verdict L s None = Unrefused L s
+abbrev pub Verdict : Language → List ℕ → Result (Unit {0}) Ground → Type 0
+Verdict L s (Err g) = Least L s g
+Verdict L s (Ok u) = Unrefused L s
 
 pub syntax_least : (L : Language) (s : List ℕ) → ((f : L.Form) → Says L s f → ⊥) → Least L s Syntax
 syntax_least L s h = (h, lower, h)
@@ -65,5 +65,18 @@ module _ (L : Language) (s : List ℕ) where
       none Measure h = clash (sym h.2 ∙ w.small h.0 h.1)
       none NotSemiStatic h = clash (sym h.2 ∙ w.semi_static h.0 h.1)
 
-  pub verdict_is : (a b c : Bool) (r : Option Ground) → r ≡ judged a b c → Weighed L s a b c → Verdict L s r
+  pub verdict_is : (a b c : Bool) (r : Result (Unit {0}) Ground) → r ≡ judged a b c → Weighed L s a b c → Verdict L s r
   verdict_is a b c r e w = subst (Verdict L s) (sym e) (verdict a b c w)
+
+-- what holds of every form that a text is, where there is one, is told by the text; and what follows from it is told too
+pub told : (L : Language) (s : List ℕ) {M : L.Form → Type 0} → (f : L.Form) × Says L s f → ((f : L.Form) → Says L s f → M f) → Told L s M
+told L s g h = record { some = (g.0, g.1, h g.0 g.1); every = h }
+
+pub retold : (L : Language) (s : List ℕ) {M N : L.Form → Type 0} → Told L s M → ((f : L.Form) → M f → N f) → Told L s N
+retold L s t h = record { some = (t.some.0, t.some.1, h t.some.0 t.some.2); every = λ f w. h f (t.every f w) }
+
+-- what nothing refuses is in range and small
+pub judged_fine : (a b c : Bool) → Ok tt ≡ judged a b c → (a ≡ true) × (b ≡ true)
+judged_fine true true c e = (refl, refl)
+judged_fine true false c e = cc
+judged_fine false b c e = cc

@@ -1,8 +1,8 @@
 -- Lists of numbers, one number longer.
-use Rattle.std.proofs.Common.{◌≡◌, ℕ, ◌<◌, ◌≤◌, Bool, true, false, ◌&&◌, ◌||◌, eqb, ltb, List, [], ◌∷◌, ◌++◌, sym, refl, ap, ◌∙◌, subst, ap₂, ⊎_elim, eq-eqb, ne_eqb}
+use Rattle.std.proofs.Common.{◌≡◌, ℕ, ◌<◌, ◌≤◌, Bool, true, false, ◌&&◌, ◌||◌, eqb, ltb, List, [], ◌∷◌, ◌++◌, Some, None, Option, MatchOption, sym, refl, ap, ◌∙◌, subst, ap₂, ⊎_elim, eq-eqb, ne_eqb}
 use mathlib.Core.Path.{fun_ext}
-use borrow.Author.Tests.{clash}
 use Rattle.std.proofs.lemmas.Bool.{lt-ltb, le-ltb, cases_eq}
+use Rattle.std.specs.Option.{is_some}
 use Rattle.words.specs.Words.{with}
 use Rattle.rbac.specs.declared.sets.RoleSet.{RoleSet}
 use Rattle.rbac.specs.Roles.{roles_of, no_role}
@@ -55,31 +55,34 @@ repeats_more (m ∷ ns) n =
     ∙ or_swap (named ns m) (eqb m n) (repeats ns) (named ns n)
     ∙ ap (λ b. (named ns m || repeats ns) || (b || named ns n)) (eqb_swap m n)
 
--- a list with one role more that is in range, and with one that is not
-pub note_role : (v : Names) (ns : List ℕ) (n : ℕ) (s : RoleSet) (c t : Bool) → Noted v ns → n < 64 → roles_of s ≡ with (roles_of v.roles) n → c ≡ roles_of v.roles n → t ≡ (v.twice || c) →
-    Noted (record { fits = v.fits; roles = s; twice = t }) (ns ++ n ∷ [])
-note_role v ns n s c t h lt e f g = record {
-  fits = h.fits ∙ and_none (all_below 64 ns) ∙ ap (λ b. all_below 64 ns && b) (sym (lt-ltb n 64 lt)) ∙ sym (below_more 64 ns n);
-  roles = λ y. e ∙ fun_ext (λ k. ap (λ g. g k || eqb k n) (h.roles y) ∙ sym (named_more ns n k));
-  twice = λ y. g ∙ ap₂ ◌||◌ (h.twice y) (f ∙ ap (λ g. g n) (h.roles y)) ∙ sym (repeats_more ns n);
-}
-
--- the same where the role's number is known by an equation
-pub note_new : (v : Names) (ns : List ℕ) (n m : ℕ) (s : RoleSet) (c t : Bool) → Noted v ns → m ≡ n → m < 64 → roles_of s ≡ with (roles_of v.roles) m → c ≡ roles_of v.roles m → t ≡ (v.twice || c) →
-    Noted (record { fits = v.fits; roles = s; twice = t }) (ns ++ n ∷ [])
-note_new v ns n m s c t h q lt e f g = subst (λ k. Noted (record { fits = v.fits; roles = s; twice = t }) (ns ++ k ∷ [])) q (note_role v ns m s c t h lt e f g)
-
 pub no_and : (a : Bool) → (a && false) ≡ false
 no_and true = refl
 no_and false = refl
 
-pub note_none : (v : Names) (ns : List ℕ) (n : ℕ) → Noted v ns → 64 ≤ n → Noted (record { fits = false; roles = v.roles; twice = v.twice }) (ns ++ n ∷ [])
-note_none v ns n h le = record {
-  fits = sym (no_and (all_below 64 ns)) ∙ ap (λ b. all_below 64 ns && b) (sym (le-ltb n 64 le)) ∙ sym (below_more 64 ns n);
-  roles = λ y. absurd (clash y);
-  twice = λ y. absurd (clash y);
-}
+-- a list with one role more that is in range, and with one that is not
+pub note_role : (v : Names) (ns : List ℕ) (n m : ℕ) (s : RoleSet) (c : Bool) → Noted (Some v) ns → m ≡ n → m < 64 → roles_of s ≡ with (roles_of v.roles) m → c ≡ roles_of v.roles m →
+    Noted (Some (record { roles = s; twice = v.twice || c })) (ns ++ n ∷ [])
+note_role v ns n m s c (b, h) q lt e f = subst (λ k. Noted (Some (record { roles = s; twice = v.twice || c })) (ns ++ k ∷ [])) q (
+  below_more 64 ns m ∙ ap₂ ◌&&◌ b (lt-ltb m 64 lt),
+  record {
+    set = e ∙ fun_ext (λ k. ap (λ g. g k || eqb k m) h.set ∙ sym (named_more ns m k));
+    twice = ap₂ ◌||◌ h.twice (f ∙ ap (λ g. g m) h.set) ∙ sym (repeats_more ns m);
+  },
+)
+
+pub note_none : (ns : List ℕ) (n : ℕ) → 64 ≤ n → Noted None (ns ++ n ∷ [])
+note_none ns n le = below_more 64 ns n ∙ ap (λ b. all_below 64 ns && b) (le-ltb n 64 le) ∙ no_and (all_below 64 ns)
+
+-- a list with one role more, of which nothing is noted where nothing was
+pub note_more : (o r : Option Names) (ns : List ℕ) (n : ℕ) → Noted o ns → MatchOption o (r ≡ None) (λ v. (ms : List ℕ) → Noted (Some v) ms → Noted r (ms ++ n ∷ [])) → Noted r (ns ++ n ∷ [])
+note_more None r ns n h e = subst (λ x. Noted x (ns ++ n ∷ [])) (sym e) (below_more 64 ns n ∙ ap (λ b. b && ltb n 64) h)
+note_more (Some v) r ns n h f = f ns h
 
 -- before the first
-pub note_start : (s : RoleSet) → roles_of s ≡ no_role → Noted (record { fits = true; roles = s; twice = false }) []
-note_start s e = record { fits = refl; roles = λ y. e; twice = λ y. refl }
+pub note_start : (s : RoleSet) → roles_of s ≡ no_role → Noted (Some (record { roles = s; twice = false })) []
+note_start s e = (refl, record { set = e; twice = refl })
+
+-- whether anything was noted tells whether each is in range
+pub noted_fits : (o : Option Names) (ns : List ℕ) → Noted o ns → is_some o ≡ all_below 64 ns
+noted_fits None ns h = sym h
+noted_fits (Some v) ns h = sym h.0

@@ -1,6 +1,7 @@
 -- Two sides: measured exactly, and built where they are small.
-use Rattle.std.proofs.Common.{◌≡◌, ℕ, ◌+◌, ◌≤◌, max, Bool, true, false, ◌&&◌, ◌||◌, leb, List, [], ◌∷◌, ◌++◌, drop, Some, None, codes, Option, sym, refl, ap, ◌∙◌, subst, arith, leb-true}
+use Rattle.std.proofs.Common.{◌≡◌, ℕ, ◌+◌, ◌≤◌, max, true, false, ◌&&◌, ◌||◌, leb, List, [], ◌∷◌, ◌++◌, Some, None, Ok, codes, Option, Result, sym, refl, ap, ◌∙◌, subst, arith, leb-true}
 use borrow.Author.Tests.{clash}
+use Rattle.std.specs.Option.{ok_or}
 use Rattle.std.proofs.lemmas.List.{append-nil}
 use Rattle.std.proofs.lemmas.Bool.{and_parts}
 use Rattle.policy.specs.Sets.{UserSet, members, holders, only, nobody, union, intersection}
@@ -10,15 +11,14 @@ use Rattle.grammar.specs.declared.grounds.Ground.TheVariants.{Syntax}
 use Rattle.grammar.specs.Text.{begins, Takes}
 use Rattle.grammar.specs.Phrase.{render, meaning, levels, operands, in_range, Written}
 use Rattle.grammar.specs.Scan.{size_of, Scanned}
-use Rattle.trees.specs.declared.nodes.Nodes.{Nodes}
-use Rattle.trees.specs.Reading.{Built, NodesOf, Small}
+use Rattle.trees.specs.Reading.{Nodes, Built, NodesOf, Small}
 use Rattle.lines.specs.declared.parts.Sizes.{Sizes}
 use Rattle.lines.specs.declared.change.Extra.{Extra}
-use Rattle.lines.specs.Languages.{Says, Least, Told, judged}
+use Rattle.lines.specs.Languages.{Says, Least}
 use Rattle.lines.specs.Bodies.{Sides, sides}
 use Rattle.lines.specs.Lines.{Sided}
-use Rattle.lines.specs.Readings.{sizes_of, Measures, weighed, Builds}
-use Rattle.lines.proofs.Judging.{Verdict, syntax_least, verdict_is}
+use Rattle.lines.specs.Readings.{sizes_of, Measures, weighed, Builds, TwoSides}
+use Rattle.lines.proofs.Judging.{Verdict, syntax_least, verdict_is, judged_fine, told}
 use Rattle.lines.proofs.Rowing.{some_is, no_some}
 
 abbrev between : List ℕ
@@ -114,7 +114,7 @@ module _ (s : List ℕ) (m : Sizes) (h : Measures s (Some m)) where
   is_it : (x : Sides) → Says sides s x → m ≡ sizes_of x
   is_it x w = some_is m (sizes_of x) (h.found x w)
 
-  pub two_verdict : (r : Option Ground) → r ≡ weighed m → Verdict sides s r
+  pub two_verdict : (r : Result (Unit {0}) Ground) → r ≡ weighed m → Verdict sides s r
   two_verdict r e = verdict_is sides s _ _ _ r e (record {
     some = let f = h.real m refl in (f.0, f.1);
     ranged = λ x w. ap (λ (z : Sizes). z.left.fits && z.right.fits) (sym (is_it x w));
@@ -122,15 +122,10 @@ module _ (s : List ℕ) (m : Sizes) (h : Measures s (Some m)) where
     semi_static = λ x w. ap (λ (z : Sizes). z.left.fixed || z.right.fixed) (sym (is_it x w));
   })
 
-  fine : (a b c : Bool) → None ≡ judged a b c → (a ≡ true) × (b ≡ true)
-  fine true true c e = (refl, refl)
-  fine true false c e = no_some _ e
-  fine false b c e = no_some _ e
-
-  pub two_small : None ≡ weighed m → (x : Sides) → Says sides s x → (Small 8 x.larger) × (Small 8 x.smaller)
+  two_small : Ok tt ≡ weighed m → (x : Sides) → Says sides s x → (Small 8 x.larger) × (Small 8 x.smaller)
   two_small e x w =
       let i = is_it x w in
-      let f = fine _ _ _ e in
+      let f = judged_fine _ _ _ e in
       let p = and_parts (in_range (meaning x.larger)) (in_range (meaning x.smaller)) (sym (ap (λ (z : Sizes). z.left.fits && z.right.fits) i) ∙ f.0) in
       let q = and_parts (leb (operands (meaning x.larger) + operands (meaning x.smaller)) 32) (leb (max (levels x.larger) (levels x.smaller)) 8)
       (sym (ap (λ (z : Sizes). leb (z.left.operands + z.right.operands) 32 && leb (max z.left.levels z.right.levels) 8) i) ∙ f.1) in
@@ -140,16 +135,8 @@ module _ (s : List ℕ) (m : Sizes) (h : Measures s (Some m)) where
       let v = some_operand (meaning x.smaller) in
       (record { range = p.0; deep = omega arith; many = omega arith }, record { range = p.1; deep = omega arith; many = omega arith })
 
-  pub two_told : None ≡ weighed m → (e : Extra) (r : Bool) → Builds s r e → Told sides s (λ x. Sided x e)
-  two_told n e r b = record {
-    some = let f = h.real m refl in let g = two_small n f.0 f.1 in (f.0, f.1, (b f.0 f.1 g.0 g.1).1);
-    every = λ x w. let g = two_small n x w in (b x w g.0 g.1).1;
-  }
-
-  -- what is small is built
-  pub two_built : None ≡ weighed m → (e : Extra) (A : Type 0) → Builds s false e → A
-  two_built n e A b = let f = h.real m refl in let g = two_small n f.0 f.1 in absurd (clash (b f.0 f.1 g.0 g.1).0)
-
--- the same text, read again from the same place
-pub from_text : (t u : List ℕ) (p : ℕ) (r : Bool) (e : Extra) → t ≡ u → Builds (drop p t) r e → Builds (drop p u) r e
-from_text t u p r e q b = subst (λ x. Builds (drop p x) r e) q b
+  pub two_told : Ok tt ≡ weighed m → (e : Extra) (r : Option (Unit {0})) → Builds s r e → TwoSides s (ok_or r Syntax) e
+  two_told n e r b =
+      let built : (x : Sides) → Says sides s x → (r ≡ Some tt) × Sided x e = λ x w. let g = two_small n x w in b x w g.0 g.1 in
+      let f = h.real m refl in
+      subst (λ a. TwoSides s a e) (sym (ap (λ o. ok_or o Syntax) (built f.0 f.1).0)) (two_verdict (Ok tt) n, told sides s (f.0, f.1) (λ x w. (built x w).1))

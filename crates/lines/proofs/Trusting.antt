@@ -1,19 +1,24 @@
 -- Users of a list, one user longer.
-use Rattle.std.proofs.Common.{◌≡◌, ℕ, zero, suc, ◌+◌, ◌/◌, ◌%◌, ◌<◌, ◌≤◌, min, Bool, true, false, cond, ◌&&◌, ◌||◌, eqb, ltb, List, [], ◌∷◌, ◌++◌, map, length, get_or, take, set, replicate, sym, refl, ap, ◌∙◌, ap₂, ⊎_elim, arith, length-append, length-set}
+use Rattle.std.proofs.Common.{◌≡◌, ℕ, zero, suc, ◌+◌, ◌/◌, ◌%◌, ◌<◌, ◌≤◌, min, Bool, true, false, ◌&&◌, ◌||◌, eqb, List, [], ◌∷◌, ◌++◌, map, length, get_or, take, replicate, Ok, Err, Result, sym, refl, ap, ◌∙◌, ap₂, ⊎_elim, arith, length-append}
 use mathlib.Core.Path.{fun_ext}
 use lib.ListN.{length-replicate}
 use borrow.Author.Tests.{clash}
-use Rattle.std.proofs.lemmas.Bool.{lt-ltb, le-ltb, cases_lt, cond-true, cond-false}
-use Rattle.std.proofs.lemmas.List.{take_more_set, take_all, map-append}
+use Rattle.std.proofs.lemmas.Bool.{lt-ltb, le-ltb, cases_lt}
+use Rattle.std.proofs.lemmas.List.{take_all, map-append, take-map, length-take-le}
 use lib.Seq.{take-append-le}
+use Rattle.bounded.specs.declared.bounded.Bounded.{Bounded}
+use Rattle.bounded.specs.declared.lists.Full.{Full}
+use Rattle.bounded.specs.Entries.{entries as kept, Pushed}
+use Rattle.bounded.proofs.Listing.{few}
+use Rattle.grammar.specs.declared.grounds.Ground.{Ground}
+use Rattle.std.specs.Result.{result_and}
 use Rattle.words.specs.Words.{bit, bits, with}
 use Rattle.words.proofs.Bits.{bit_none}
 use Rattle.rbac.specs.declared.users.User.{User}
 use Rattle.lines.specs.declared.change.Extra.{Extra}
-use Rattle.lines.specs.Entries.{all_below, repeats}
-use Rattle.policy.specs.Tests.{listed as named}
-use Rattle.lines.specs.Lists.{number_of, Users, Seen, kept}
-use Rattle.lines.proofs.Naming.{named_more, below_more, repeats_more, and_none, no_and}
+use Rattle.lines.specs.Entries.{all_below}
+use Rattle.lines.specs.Lists.{number_of, in_range, Seen}
+use Rattle.lines.proofs.Naming.{named_more, below_more, repeats_more, no_and}
 
 never : (g : Bool) → (g && false) ≡ true → ⊥
 never g y = clash (sym (no_and g) ∙ y)
@@ -28,27 +33,24 @@ see_none ws e good ms n h le = record {
   };
   marked = λ y. absurd (never good y);
   wide = h.wide;
-  places = h.places;
 }
 
--- the first 32 of a list with one user more
-module _ (us : List User) (ms : List ℕ) (u : User) (n : ℕ) (full : length us ≡ 32) (is : u.number ≡ n) (first : map number_of (take (length ms) us) ≡ take 32 ms) where
-  longer : length (ms ++ n ∷ []) ≡ length ms + 1
-  longer = length-append ms (n ∷ [])
+-- the first 32 of a list with one more
+take_kept : (ms : List ℕ) (n : ℕ) → take 32 (take 32 ms ++ n ∷ []) ≡ take 32 (ms ++ n ∷ [])
+take_kept ms n = ⊎_elim
+    (λ (k : length ms < 32). ap (λ l. take 32 (l ++ n ∷ [])) (take_all 32 ms (omega arith)))
+    (λ (k : 32 ≤ length ms).
+    let l = length-take-le 32 ms k in
+    take-append-le 32 (take 32 ms) (n ∷ []) (omega arith) ∙ take_all 32 (take 32 ms) (omega arith) ∙ sym (take-append-le 32 ms (n ∷ []) k))
+    (cases_lt (length ms) 32)
 
-  kept_low : length ms < 32 → map number_of (take (length (ms ++ n ∷ [])) (set us (length ms) u)) ≡ take 32 (ms ++ n ∷ [])
-  kept_low lt =
-      ap (λ k. map number_of (take k (set us (length ms) u))) longer
-      ∙ ap (map number_of) (take_more_set us (length ms) u (omega arith))
-      ∙ map-append number_of (take (length ms) us) (u ∷ [])
-      ∙ ap (λ l. l ++ (u.number ∷ [])) (first ∙ take_all 32 ms (omega arith))
-      ∙ ap (λ k. ms ++ (k ∷ [])) is
-      ∙ sym (take_all 32 (ms ++ n ∷ []) (let e = longer in omega arith))
+pub kept_more : (old new : Bounded User 32) (u : User) (r : Result (Unit {0}) Full) → Pushed old u r new → kept new ≡ take 32 (kept old ++ u ∷ [])
+kept_more old new u (Ok t) h = h ∙ sym (take_all 32 (kept old ++ u ∷ []) (let f = few new in omega (arith, ap length h)))
+kept_more old new u (Err e) h = ap kept h.0 ∙ sym (take-append-le 32 (kept old) (u ∷ []) (omega (arith, h.1)) ∙ take_all 32 (kept old) (omega (arith, h.1)))
 
-  kept_high : 32 ≤ length ms → map number_of (take (length (ms ++ n ∷ [])) us) ≡ take 32 (ms ++ n ∷ [])
-  kept_high le =
-      ap (map number_of) (take_all (length (ms ++ n ∷ [])) us (let e = longer in omega arith) ∙ sym (take_all (length ms) us (omega arith)))
-      ∙ first ∙ sym (take-append-le 32 ms (n ∷ []) le)
+first_more : (us vs : List User) (ms : List ℕ) (u : User) (n : ℕ) → vs ≡ take 32 (us ++ u ∷ []) → u.number ≡ n → map number_of us ≡ take 32 ms → map number_of vs ≡ take 32 (ms ++ n ∷ [])
+first_more us vs ms u n e is h =
+    ap (map number_of) e ∙ sym (take-map number_of 32 (us ++ u ∷ [])) ∙ ap (take 32) (map-append number_of us (u ∷ []) ∙ ap₂ (λ (l : List ℕ) (k : ℕ). l ++ k ∷ []) h is) ∙ take_kept ms n
 
 good_only : (g : Bool) → (g && true) ≡ true → g ≡ true
 good_only true y = refl
@@ -56,28 +58,18 @@ good_only false y = absurd (clash y)
 
 pub see_more : (ws vs : List ℕ) (e f : Extra) (good again : Bool) (ms : List ℕ) (n : ℕ) (u : User) → Seen ws e good ms → n < 65536 → length ms < 18446744073709551615 → u.number ≡ n →
     again ≡ bits ws n → bits vs ≡ with (bits ws) n → length vs ≡ length ws →
-    f.trusted ≡ kept e u → f.many ≡ min (e.many + 1) 18446744073709551615 → f.twice ≡ (e.twice || again) →
+    kept f.trusted ≡ take 32 (kept e.trusted ++ u ∷ []) → f.many ≡ min (e.many + 1) 18446744073709551615 → f.twice ≡ (e.twice || again) →
     Seen vs f (good && true) (ms ++ n ∷ [])
 see_more ws vs e f good again ms n u h lt room is a b wide t m w = record {
   users = record {
     fits = ap (λ x. x && true) h.users.fits ∙ ap (λ x. all_below 65536 ms && x) (sym (lt-ltb n 65536 lt)) ∙ sym (below_more 65536 ms n);
     many = λ y. let q = h.users.many (good_only good y) in let l : length (ms ++ n ∷ []) ≡ length ms + 1 = length-append ms (n ∷ []) in m ∙ omega arith;
-    first = λ y.
-        let q = h.users.many (good_only good y) in
-        let d = h.users.first (good_only good y) in
-        ap (λ l. map number_of (take (length (ms ++ n ∷ [])) l)) t ∙ ⊎_elim
-        (λ (k : length ms < 32). ap (λ l. map number_of (take (length (ms ++ n ∷ [])) l)) (cond-true _ _ _ (lt-ltb e.many 32 (omega arith)) ∙ ap (λ j. set e.trusted j u) q) ∙ kept_low e.trusted ms u n h.places is d k)
-        (λ (k : 32 ≤ length ms). ap (λ l. map number_of (take (length (ms ++ n ∷ [])) l)) (cond-false _ _ _ (le-ltb e.many 32 (omega arith))) ∙ kept_high e.trusted ms u n h.places is d k)
-        (cases_lt (length ms) 32);
+    first = λ y. first_more (kept e.trusted) (kept f.trusted) ms u n t is (h.users.first (good_only good y));
     twice = λ y. w ∙ ap₂ ◌||◌ (h.users.twice (good_only good y)) (a ∙ ap (λ g. g n) (h.marked (good_only good y))) ∙ sym (repeats_more ms n);
   };
   marked = λ y. b ∙ fun_ext (λ k. ap (λ g. g k || eqb k n) (h.marked (good_only good y)) ∙ sym (named_more ms n k));
   wide = wide ∙ h.wide;
-  places = ap length t ∙ kept_length e.many e.trusted u h.places;
 }
-  where
-    kept_length : (k : ℕ) (us : List User) (v : User) → length us ≡ 32 → length (cond (ltb k 32) (set us k v) us) ≡ 32
-    kept_length k us v q = elim (ltb k 32) as (λ x. length (cond x (set us k v) us) ≡ 32) [ true ↦ length-set us k v ∙ q | false ↦ q ]
 
 zeros_get : (n i : ℕ) → ◌≡◌ {A = ℕ} (get_or (replicate n 0) i 0) 0
 zeros_get zero i = refl
@@ -89,10 +81,13 @@ unfolding bits
 no_bits n k = ap (λ w. bit w (k % 64)) (zeros_get n (k / 64)) ∙ bit_none (k % 64)
 
 -- before the first
-pub see_start : (e : Extra) → e.many ≡ 0 → e.twice ≡ false → length e.trusted ≡ 32 → Seen (replicate 1024 0) e true []
-see_start e m t p = record {
-  users = record { fits = refl; many = λ y. m; first = λ y. refl; twice = λ y. t };
+pub see_start : (e : Extra) → e.many ≡ 0 → e.twice ≡ false → kept e.trusted ≡ [] → Seen (replicate 1024 0) e true []
+see_start e m t k = record {
+  users = record { fits = refl; many = λ y. m; first = λ y. ap (map number_of) k; twice = λ y. t };
   marked = λ y. fun_ext (no_bits 1024);
   wide = length-replicate {A = ℕ} 1024 0;
-  places = p;
 }
+
+pub both_fit : (r s : Result (Unit {0}) Ground) (a b : Bool) → r ≡ in_range a → s ≡ in_range b → result_and r s ≡ in_range (a && b)
+both_fit r s true b e f = ap (λ x. result_and x s) e ∙ f
+both_fit r s false b e f = ap (λ x. result_and x s) e

@@ -1,5 +1,5 @@
 -- Reading a list entry by entry, up to the end of the text.
-use Rattle.std.proofs.Common.{◌≡◌, ℕ, ◌+◌, ◌<◌, ◌≤◌, ◌⊎◌, List, [], ◌∷◌, ◌++◌, length, Some, None, decimal, sym, refl, ap, ◌∙◌, subst, inl, inr, append_assoc, arith, length-append}
+use Rattle.std.proofs.Common.{◌≡◌, ℕ, ◌+◌, ◌*◌, ◌<◌, ◌≤◌, ◌⊎◌, List, [], ◌∷◌, ◌++◌, length, Some, None, decimal, sym, refl, ap, ◌∙◌, subst, inl, inr, append_assoc, arith, length-append}
 use Rattle.std.proofs.lemmas.List.{append-nil}
 use Rattle.grammar.specs.Text.{got, none}
 use Rattle.lines.specs.Entries.{entries, AllShort, entry_at}
@@ -53,12 +53,12 @@ walk_more c s0 s x ms n w e =
           (j.0, k.1 ∙ ap (λ l. ms ++ l) j.1 ∙ sym (append_assoc ms (n ∷ []) j.0), j.2);
     }
 
-entries_long : (c : ℕ) (ms : List ℕ) → length ms ≤ length (entries c ms)
+entries_long : (c : ℕ) (ms : List ℕ) → 2 * length ms ≤ length (entries c ms)
 entries_long c [] = omega arith
 entries_long c (m ∷ ms) = let h = entries_long c ms in let a : length (decimal m ++ entries c ms) ≡ length (decimal m) + length (entries c ms) = length-append (decimal m) (entries c ms) in omega arith
 
--- there are no more entries than bytes
-pub walk_room : (c : ℕ) (s0 s ms : List ℕ) → Walk c s0 s ms → length ms ≤ length s0
+-- there are at least two bytes to each entry
+pub walk_room : (c : ℕ) (s0 s ms : List ℕ) → Walk c s0 s ms → 2 * length ms ≤ length s0
 walk_room c s0 s ms w = let h = entries_long c ms in let a : length s0 ≡ length (entries c ms) + length s = ap length w.text ∙ length-append (entries c ms) s in omega arith
 
 -- a further entry is due, and none stands there: at the start, or where something is left

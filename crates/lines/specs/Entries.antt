@@ -1,5 +1,5 @@
 -- Lists of numbers in a line: how they are written, and what they name.
-use Rattle.std.specs.Prelude.{◌≡◌, ℕ, ◌<◌, Bool, true, false, cond, ◌&&◌, ◌||◌, List, [], ◌∷◌, ◌++◌, decimal, ◌==◌, nat_lt}
+use Rattle.std.specs.Prelude.{ℕ, ◌<◌, Bool, true, false, cond, ◌&&◌, ◌||◌, List, [], ◌∷◌, ◌++◌, decimal, ◌==◌, nat_lt}
 use Rattle.policy.specs.Tests.{listed as named}
 use Rattle.grammar.specs.Text.{Read, none, number}
 
@@ -22,10 +22,6 @@ all_below limit (n ∷ ns) = nat_lt n limit && all_below limit ns
 abbrev pub repeats : List ℕ → Bool
 repeats [] = false
 repeats (n ∷ ns) = named ns n || repeats ns
-
-abbrev pub is_nil : List ℕ → Bool
-is_nil [] = true
-is_nil (b ∷ bs) = false
 
 -- a sign that is asked for, and then a number
 abbrev pub after : ℕ → List ℕ → (List ℕ → Read) → Read

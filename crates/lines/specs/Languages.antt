@@ -1,5 +1,5 @@
 -- Languages: what may be written, and on which ground a text is refused.
-use Rattle.std.specs.Prelude.{◌≡◌, ℕ, ◌<◌, Bool, false, cond, List, Some, None, Option}
+use Rattle.std.specs.Prelude.{◌≡◌, ℕ, ◌<◌, Bool, false, cond, List, Ok, Err, Result}
 use Rattle.grammar.specs.declared.grounds.Ground.{Ground}
 use Rattle.grammar.specs.declared.grounds.Ground.TheVariants.{Syntax, Range, Measure, NotSemiStatic}
 
@@ -49,6 +49,6 @@ pub record Told (L : Language) (s : List ℕ) (Means : L.Form → Type 0) : Type
   pub some : (f : L.Form) × (Says L s f) × Means f
   pub every : (f : L.Form) → Says L s f → Means f
 
--- the ground to refuse a form of which these three are known
-abbrev pub judged : Bool → Bool → Bool → Option Ground
-judged ranged small semi_static = cond ranged (cond small (cond semi_static None (Some NotSemiStatic)) (Some Measure)) (Some Range)
+-- whether to refuse a form of which these three are known, and on which ground
+abbrev pub judged : Bool → Bool → Bool → Result (Unit {0}) Ground
+judged ranged small semi_static = cond ranged (cond small (cond semi_static (Ok tt) (Err NotSemiStatic)) (Err Measure)) (Err Range)

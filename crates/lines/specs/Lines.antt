@@ -1,5 +1,5 @@
 -- Lines, questions and changes as they are written, and what they say.
-use Rattle.std.specs.Prelude.{◌≡◌, ℕ, Bool, true, false, List, [], ◌++◌, map, length, take, Ok, Err, codes, Result}
+use Rattle.std.specs.Prelude.{◌≡◌, ℕ, Bool, true, false, List, [], ◌++◌, map, length, take, Some, None, Ok, Err, codes, Option, Result}
 use Rattle.policy.specs.Measures as measures
 use Rattle.grammar.specs.Phrase.{meaning}
 use Rattle.grammar.specs.declared.grounds.Ground.{Ground}
@@ -8,7 +8,8 @@ use Rattle.rbac.specs.declared.users.User.{User}
 use Rattle.rbac.specs.declared.roles.Role.{Role}
 use Rattle.rbac.specs.declared.permissions.Permission.{Permission}
 use Rattle.rbac.specs.declared.sets.RoleSet.{RoleSet}
-use Rattle.trees.specs.Reading.{listed, postfix}
+use Rattle.bounded.specs.Entries.{entries as kept}
+use Rattle.trees.specs.Reading.{Nodes, listed, postfix}
 use Rattle.lines.specs.declared.change.Change.{Change}
 use Rattle.lines.specs.declared.change.Change.TheVariants as change
 use Rattle.lines.specs.declared.change.Extra.{Extra}
@@ -88,10 +89,14 @@ pub record Fine (x : Sentence) : Type 0 where
   pub small : lines.small x ≡ true
   pub semi_static : lines.semi_static x ≡ true
 
+-- the tree of a condition: none for `true`, and else that of its set
+abbrev pub TreeOf : Clause → Option Nodes → Type 0
+TreeOf always_true tree = tree ≡ None
+TreeOf (in_set p) tree = (nodes : Nodes) × (tree ≡ Some nodes) × (listed nodes ≡ postfix (meaning p))
+
 -- the nodes beside a change are those of the condition, or of the two sides
 abbrev pub Conditioned : Clause → Extra → Type 0
-Conditioned always_true e = e.everybody ≡ true
-Conditioned (in_set p) e = (e.everybody ≡ false) × (listed e.left ≡ postfix (meaning p))
+Conditioned c e = TreeOf c e.condition
 
 pub record Sided (x : Sides) (e : Extra) : Type 0 where
   pub left : listed e.left ≡ postfix (meaning x.larger)
@@ -105,7 +110,7 @@ pub record Lists (ns : List ℕ) (roles : RoleSet) (e : Extra) : Type 0 where
 -- the users of a `trust` line: how many there are, the first 32 of them, and whether one is named twice
 pub record Trusts (ns : List ℕ) (e : Extra) : Type 0 where
   pub many : e.many ≡ length ns
-  pub first : map number_of (take (length ns) e.trusted) ≡ take 32 ns
+  pub first : map number_of (kept e.trusted) ≡ take 32 ns
   pub twice : e.twice ≡ repeats ns
 
 -- the change, with what lies beside it, that a line says

@@ -1,6 +1,9 @@
 -- What the readers of lists answer.
-use Rattle.std.specs.Prelude.{◌≡◌, ℕ, Bool, true, cond, List, ◌∷◌, map, length, take, Some, Option, nat_lt, slice_set}
+use Rattle.std.specs.Prelude.{◌≡◌, ℕ, Bool, true, false, List, ◌∷◌, map, length, take, Some, None, Ok, Err, Option, Result}
+use Rattle.bounded.specs.Entries.{entries as kept}
 use Rattle.words.specs.Words.{bits}
+use Rattle.grammar.specs.declared.grounds.Ground.{Ground}
+use Rattle.grammar.specs.declared.grounds.Ground.TheVariants.{Range}
 use Rattle.rbac.specs.Roles.{roles_of}
 use Rattle.rbac.specs.declared.users.User.{User}
 use Rattle.lines.specs.declared.parts.Names.{Names}
@@ -8,11 +11,15 @@ use Rattle.lines.specs.declared.change.Extra.{Extra}
 use Rattle.lines.specs.Entries.{entries, AllShort, all_below, repeats}
 use Rattle.policy.specs.Tests.{listed as named}
 
--- what was noted of the roles of a list
-pub record Noted (v : Names) (ns : List ℕ) : Type 0 where
-  pub fits : v.fits ≡ all_below 64 ns
-  pub roles : v.fits ≡ true → roles_of v.roles ≡ named ns
-  pub twice : v.fits ≡ true → v.twice ≡ repeats ns
+-- the roles of a list that are all in range: the set of them, and whether one is named twice
+pub record Named (v : Names) (ns : List ℕ) : Type 0 where
+  pub set : roles_of v.roles ≡ named ns
+  pub twice : v.twice ≡ repeats ns
+
+-- what was noted of the roles of a list, which is nothing where one is out of range
+abbrev pub Noted : Option Names → List ℕ → Type 0
+Noted (Some v) ns = (all_below 64 ns ≡ true) × Named v ns
+Noted None ns = all_below 64 ns ≡ false
 
 abbrev pub number_of : User → ℕ
 number_of u = u.number
@@ -21,19 +28,19 @@ number_of u = u.number
 pub record Users (e : Extra) (good : Bool) (ns : List ℕ) : Type 0 where
   pub fits : good ≡ all_below 65536 ns
   pub many : good ≡ true → e.many ≡ length ns
-  pub first : good ≡ true → map number_of (take (length ns) e.trusted) ≡ take 32 ns
+  pub first : good ≡ true → map number_of (kept e.trusted) ≡ take 32 ns
   pub twice : good ≡ true → e.twice ≡ repeats ns
 
--- the places for users once one more was counted
-abbrev pub kept : Extra → User → List User
-kept e u = cond (nat_lt e.many 32) (slice_set e.trusted e.many u) e.trusted
+-- the answer of a list where each number is in range, and where one is not
+abbrev pub in_range : Bool → Result (Unit {0}) Ground
+in_range true = Ok tt
+in_range false = Err Range
 
 -- the same while a list is read, with the table of those that were seen
 pub record Seen (table : List ℕ) (e : Extra) (good : Bool) (ns : List ℕ) : Type 0 where
   pub users : Users e good ns
   pub marked : good ≡ true → bits table ≡ named ns
   pub wide : length table ≡ 1024
-  pub places : length e.trusted ≡ 32
 
 -- all of the text is a list of one or more entries of that letter, and the answer tells of it; else there is none
 pub record Listed (c : ℕ) {V : Type 0} (Tells : V → List ℕ → Type 0) (s : List ℕ) (r : Option V) : Type 0 where

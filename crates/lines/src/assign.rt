@@ -1,5 +1,5 @@
 // What stands behind `assign`: an administering role, a condition and targets.
-ghost use Rattle.std.specs.Prelude.{◌≡◌, true, false};
+ghost use Rattle.std.specs.Prelude.{◌≡◌};
 ghost use Rattle.grammar.specs.Text.{rest};
 ghost use Rattle.lines.specs.declared.keyword.Keyword.TheVariants.{Assign};
 ghost use Rattle.lines.specs.Lines.{Body};
@@ -7,98 +7,68 @@ ghost use Rattle.lines.specs.Clauses.{Clauses, Conditions, Assigns, assigned_gro
 
 use crate::change::{Change, Extra};
 use crate::lists::{entry, roles};
-use crate::parts::{Assigned, Weight};
+use crate::parts::{Assigned, LEVELS};
 use crate::sides::judge;
 use grammar::scan::scan;
 use grammar::{Ground, Reader, Size};
+use policy::{CONDITION_OPERANDS, ROLES};
 use rbac::Role;
+use trees::Nodes;
 use trees::read::side;
 
-const ROLES: u32 = 64;
-
-const OPERANDS: usize = 16;
-
-const LEVELS: usize = 8;
-
-const DEEP: u8 = 8;
-
-// Measures the condition at the place, whatever its depth, and goes to its end.
-fn clause(r: &mut Reader) -> Option<Weight>
-    ensures text { r.new.text.now ≡ r.old.text.now }
-    ensures read { Clauses (rest r.old) result (rest r.new) }
+// Measures the condition at the place, whatever its depth, and goes to its end; `true` has no size.
+fn clause(r: &mut Reader) -> Option<Option<Size>>
+    ensures { Clauses (rest r.old) result (rest r.new) }
 {
     if r.takes(b"true") {
-        let size = Size {
-            operands: 0,
-            levels: 0,
-            fits: true,
-            fixed: true,
-            roles: true,
-        };
-        return Some(Weight {
-            everybody: true,
-            size,
-        });
+        return Some(None);
     }
     let size = scan(r)?;
-    if size.roles {
-        Some(Weight {
-            everybody: false,
-            size,
-        })
-    } else {
-        None
-    }
+    if size.roles { Some(Some(size)) } else { None }
 }
 
 // Builds the condition at the place, which was measured and found small.
-fn condition(r: &mut Reader, everybody: bool, extra: &mut Extra) -> bool
-    ensures built { Conditions (rest r.old) everybody result extra.new }
-    ensures twice { extra.new.twice ≡ extra.old.twice }
+fn condition(r: &mut Reader, size: Option<Size>) -> Option<Option<Nodes>>
+    ensures { Conditions (rest r.old) size result }
 {
-    extra.everybody = everybody;
-    if everybody {
-        return true;
-    }
-    match side(r, DEEP) {
-        Some(left) => {
-            extra.left = left;
-            true
+    match size {
+        Some(_) => {
+            let nodes = side(r, LEVELS)?;
+            Some(Some(nodes))
         }
-        None => false,
+        None => Some(None),
     }
 }
 
 // Measures all that stands behind the word.
-fn assigning(r: &mut Reader) -> Option<Assigned>
-    ensures text { r.new.text.now ≡ r.old.text.now }
-    ensures read { Assigns r.old.text.now (rest r.old) result }
+fn assigning<'a>(r: &mut Reader<'a>) -> Option<Assigned<'a>>
+    ensures { Assigns (rest r.old) result }
 {
     let admin = entry(r, b'r')?;
     if !r.takes(b" : ") {
         return None;
     }
-    let place = r.place;
-    let weight = clause(r)?;
+    let condition = r.rest();
+    let size = clause(r)?;
     if !r.takes(b" :") {
         return None;
     }
     let names = roles(r)?;
     Some(Assigned {
         admin,
-        place,
-        weight,
+        condition,
+        size,
         names,
     })
 }
 
-fn weigh(m: Assigned) -> Option<Ground>
-    ensures { result ≡ assigned_ground m }
+fn weigh(m: Assigned) -> Result<(), Ground>
+    ensures { result ≡ assigned_ground m.entry }
 {
-    let small = (m.weight.size.operands <= OPERANDS) & (m.weight.size.levels <= LEVELS);
+    let size = m.size.unwrap_or(Size::empty());
     judge(
-        (m.admin < ROLES) & (m.weight.size.fits & m.names.fits),
-        small,
+        (m.admin < ROLES as u32) & (size.fits & m.names.is_some()),
+        (size.operands <= CONDITION_OPERANDS) & (size.levels <= LEVELS as usize),
         true,
     )
 }
@@ -106,22 +76,15 @@ fn weigh(m: Assigned) -> Option<Ground>
 pub fn assign(r: &mut Reader, extra: &mut Extra) -> Result<Change, Ground>
     ensures { Body Assign (rest r.old) result extra.new }
 {
-    let Some(m) = assigning(r) else {
-        return Err(Ground::Syntax);
-    };
-    match weigh(m) {
-        Some(ground) => return Err(ground),
-        None => extra.twice = m.names.twice,
-    }
-    r.place = m.place;
-    if !condition(r, m.weight.everybody, extra) {
-        return Err(Ground::Syntax);
-    }
-    match Role::new(m.admin) {
-        Some(admin) => Ok(Change::Assign {
-            admin,
-            targets: m.names.roles,
-        }),
-        None => Err(Ground::Range),
-    }
+    let m = assigning(r).ok_or(Ground::Syntax)?;
+    weigh(m)?;
+    let admin = Role::new(m.admin).ok_or(Ground::Range)?;
+    let names = m.names.ok_or(Ground::Range)?;
+    let mut again = Reader::new(m.condition, r.line());
+    extra.condition = condition(&mut again, m.size).ok_or(Ground::Syntax)?;
+    extra.twice = names.twice;
+    Ok(Change::Assign {
+        admin,
+        targets: names.roles,
+    })
 }

@@ -1,10 +1,10 @@
-ghost use Rattle.std.specs.Prelude.{◌≡◌, length};
-
+use bounded::Bounded;
+use policy::TRUSTED_USERS;
 use rbac::{Permission, Role, RoleSet, User};
 use trees::Nodes;
 
 // What one line of a board names, by its kind; its trusted users and its trees lie beside it.
-#[derive(Clone, Copy)]
+#[derive(Clone, Copy, PartialEq, Eq, Debug)]
 pub enum Change {
     Ua {
         user: User,
@@ -32,14 +32,13 @@ pub enum Change {
 }
 
 // What is lent beside a change: how many users a `trust` line names and the first 32 of them, whether the line's list
-// names an entry twice, whether a condition is `true`, and the trees of a condition (the left one) or of two sides.
+// names an entry twice, the tree of a condition, which is none where it is `true`, and the trees of two sides.
 #[derive(Clone, Copy)]
 pub struct Extra {
-    pub trusted: [User; 32],
+    pub trusted: Bounded<User, TRUSTED_USERS>,
     pub many: usize,
     pub twice: bool,
-    pub everybody: bool,
+    pub condition: Option<Nodes>,
     pub left: Nodes,
     pub right: Nodes,
-    ghost places: { length trusted ≡ 32 },
 }

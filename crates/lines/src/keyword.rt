@@ -1,5 +1,5 @@
 // The words that lines and questions begin with.
-#[derive(Clone, Copy, PartialEq, Eq)]
+#[derive(Clone, Copy, PartialEq, Eq, Debug)]
 pub enum Keyword {
     Ua,
     Pa,

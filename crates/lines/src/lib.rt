@@ -7,7 +7,7 @@ mod parts;
 
 pub use change::{Change, Extra};
 pub use keyword::Keyword;
-pub use parts::{Assigned, Names, Row, Sizes, Weight};
+pub use parts::{Assigned, Names, Row, Sizes};
 
 pub mod assign;
 pub mod lists;

@@ -1,79 +1,58 @@
 // Lists of roles and of users that end a line.
-ghost use Rattle.std.specs.Prelude.{◌≡◌, ℕ, ◌+◌, ◌<◌, ◌≤◌, min, Bool, true, false, ◌&&◌, List, [], ◌∷◌, ◌++◌, length, Some, None};
+ghost use Rattle.std.specs.Prelude.{◌≡◌, ℕ, ◌+◌, ◌<◌, ◌≤◌, min, Bool, false, ◌&&◌, List, [], ◌∷◌, ◌++◌, length, take, Option, Some, None, MatchOption};
+ghost use Rattle.bounded.specs.Entries.{entries as kept};
+ghost use Rattle.policy.specs.Measures.{users as all_users};
 ghost use Rattle.grammar.specs.Text.{rest, taken};
-ghost use Rattle.trees.specs.Reading.{listed};
-ghost use Rattle.lines.specs.Entries.{entry_at, is_nil};
-ghost use Rattle.lines.specs.Lists.{Noted, Listed, Users, Seen, kept};
+ghost use Rattle.trees.specs.Reading.{Nodes as Tree, listed};
+ghost use Rattle.lines.specs.Entries.{entry_at};
+ghost use Rattle.lines.specs.Lists.{Noted, Listed, Seen, in_range};
+ghost use Rattle.lines.specs.Readings.{TrustRead};
 
 use crate::change::Extra;
-use crate::parts::{Names, Row};
-use grammar::Reader;
+use crate::parts::Names;
+use bounded::Bounded;
+use grammar::{Ground, Reader};
 use rbac::{Role, RoleSet, User};
-use trees::Nodes;
+use trees::no_nodes;
 use words::{has, put};
-
-const USERS: u32 = 65536;
-
-const TRUSTED: usize = 32;
 
 // A blank, a letter and a number.
 pub fn entry(r: &mut Reader, letter: u8) -> Option<u32>
-    ensures text { r.new.text.now ≡ r.old.text.now }
     ensures read { entry_at letter (rest r.old) ≡ taken result (rest r.new) }
 {
-    if !r.take(b' ') {
-        return None;
+    if r.take(b' ') && r.take(letter) {
+        r.number()
+    } else {
+        None
     }
-    if !r.take(letter) {
-        return None;
-    }
-    r.number()
-}
-
-// Whether all of the text is read.
-pub fn ended(r: &Reader) -> bool
-    ensures { result ≡ is_nil (rest r.now) }
-{
-    r.place == r.text.len()
 }
 
 impl Names {
-    // The same with one role more.
-    fn with(self, number: u32) -> Names
-        ensures { (ms : List ℕ) → Noted self ms → Noted result (ms ++ number ∷ []) }
+    // The same with one role more; none where its number is out of range.
+    fn with(self, number: u32) -> Option<Names>
+        ensures { (ms : List ℕ) → Noted (Some self) ms → Noted result (ms ++ number ∷ []) }
     {
-        match Role::new(number) {
-            Some(role) => {
-                let again = self.roles.contains(role);
-                Names {
-                    fits: self.fits,
-                    roles: self.roles.insert(role),
-                    twice: self.twice || again,
-                }
-            }
-            None => Names {
-                fits: false,
-                roles: self.roles,
-                twice: self.twice,
-            },
-        }
+        let role = Role::new(number)?;
+        Some(Names {
+            roles: self.roles.insert(role),
+            twice: self.twice | self.roles.contains(role),
+        })
     }
 }
 
-// The roles of a list that goes on to the end of the text.
-pub fn roles(r: &mut Reader) -> Option<Names>
-    ensures text { r.new.text.now ≡ r.old.text.now }
+// The roles of a list that goes on to the end of the text, and of these none where one is out of range. Such a role
+// doesn't end the list: a fault in how the rest is written is refused first, so that all of it is read.
+pub fn roles(r: &mut Reader) -> Option<Option<Names>>
     ensures read { Listed 114 Noted (rest r.old) result }
 {
-    let mut names = Names {
-        fits: true,
+    let mut names = Some(Names {
         roles: RoleSet::empty(),
         twice: false,
-    };
+    });
     'entries: loop {
         let number = entry(r, b'r')?;
-        names = names.with(number);
-        if ended(r) {
+        names = names.and_then(|names| names.with(number));
+        if r.is_at_end() {
             return Some(names);
         }
     }
@@ -82,64 +61,70 @@ pub fn roles(r: &mut Reader) -> Option<Names>
 impl Extra {
     // Nothing beside a change.
     pub fn new() -> Extra
+        ensures trusted { kept result.trusted ≡ [] }
         ensures many { result.many ≡ 0 }
         ensures twice { result.twice ≡ false }
-        ensures everybody { result.everybody ≡ false }
+        ensures condition { (tree : Tree) × (result.condition ≡ Some tree) × (listed tree ≡ []) }
         ensures left { listed result.left ≡ [] }
         ensures right { listed result.right ≡ [] }
     {
         Extra {
-            trusted: [User::of(0); 32],
+            trusted: Bounded::new(User::from(0)),
             many: 0,
             twice: false,
-            everybody: false,
-            left: Nodes::none(),
-            right: Nodes::none(),
+            condition: Some(no_nodes()),
+            left: no_nodes(),
+            right: no_nodes(),
         }
     }
 
     // Counts one more trusted user, and keeps it while there is a place.
     fn add(&mut self, user: User)
-        ensures trusted { self.new.trusted ≡ kept self.old user }
+        ensures trusted { kept self.new.trusted ≡ take 32 (kept self.old.trusted ++ user ∷ []) }
         ensures many { self.new.many ≡ min (self.old.many + 1) 18446744073709551615 }
         ensures twice { self.new.twice ≡ self.old.twice }
     {
-        if self.many < TRUSTED {
-            self.trusted[self.many] = user;
-        }
+        let _ = self.trusted.push(user);
         self.many = self.many.saturating_add(1);
     }
 }
 
-// Notes one user; false where there is none of that number.
-fn note(seen: &mut [u64], extra: &mut Extra, number: u32) -> bool
-    ensures { (good : Bool) (ms : List ℕ) → length ms < 18446744073709551615 → Seen seen.old extra.old good ms → Seen seen.new extra.new (good && result) (ms ++ number ∷ []) }
+// The user of that number; the bound is said here, since what a user's type says is not seen where this is passed on.
+pub(crate) fn user(number: u32) -> Option<User>
+    ensures { MatchOption result (all_users ≤ number) (λ u. (u.number ≡ number) × (number < all_users)) }
 {
-    if number >= USERS {
-        return false;
-    }
+    User::new(number)
+}
+
+// Notes one user, or refuses the number where there is none of it.
+fn note(seen: &mut [u64], extra: &mut Extra, number: u32) -> Result<(), Ground>
+    ensures { (good : Bool) (ms : List ℕ) → length ms < 18446744073709551615 → Seen seen.old extra.old good ms → (fits : Bool) × (result ≡ in_range fits) × Seen seen.new extra.new (good && fits) (ms ++ number ∷ []) }
+{
+    let user = user(number).ok_or(Ground::Range)?;
     let k = number as usize;
     let again = has(seen, k);
     put(seen, k);
     extra.twice = extra.twice | again;
-    extra.add(User::of(number as u16));
-    true
+    extra.add(user);
+    Ok(())
 }
 
-// The users of a list that goes on to the end of the text; whether each is in range.
-pub fn users(r: &mut Reader, extra: &mut Extra) -> Option<bool>
-    ensures { Listed 117 (Users extra.new) (rest r.old) result }
+// The users of a list that goes on to the end of the text, into what lies beside the change.
+pub fn users(r: &mut Reader, extra: &mut Extra) -> Result<(), Ground>
+    ensures { TrustRead (rest r.old) result extra.new }
 {
+    // The count of the users cannot wrap, since the slice of what is left has a length.
+    let _left = r.rest();
     let mut seen = [0u64; 1024];
-    let mut fits = true;
+    let mut fits = Ok(());
+    extra.trusted = Bounded::new(User::from(0));
     extra.many = 0;
     extra.twice = false;
     'entries: loop {
-        let number = entry(r, b'u')?;
-        let good = note(&mut seen, extra, number);
-        fits = fits & good;
-        if ended(r) {
-            return Some(fits);
+        let number = entry(r, b'u').ok_or(Ground::Syntax)?;
+        fits = fits.and(note(&mut seen, extra, number));
+        if r.is_at_end() {
+            return fits;
         }
     }
 }

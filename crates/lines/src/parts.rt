@@ -1,18 +1,20 @@
 use grammar::Size;
 use rbac::RoleSet;
 
-// The roles that a list names: whether each is in range, the set of them, and whether one is named twice.
+// Parentheses nest at most so deep.
+pub(crate) const LEVELS: u8 = 8;
+
+// The roles that a list names: the set of them, and whether one is named twice.
 #[derive(Clone, Copy)]
 pub struct Names {
-    pub fits: bool,
     pub roles: RoleSet,
     pub twice: bool,
 }
 
-// A number and the roles that follow it.
+// What a line is about, a user, a permission or a role, and the roles that follow it.
 #[derive(Clone, Copy)]
-pub struct Row {
-    pub subject: u32,
+pub struct Row<N: Copy> {
+    pub subject: N,
     pub names: Names,
 }
 
@@ -23,18 +25,12 @@ pub struct Sizes {
     pub right: Size,
 }
 
-// A condition, measured: `true`, or a set of this size.
+// What stands behind `assign`, measured: the text from its condition on, the size of that, which is none for `true`, and
+// the targets, which are none where one is out of range.
 #[derive(Clone, Copy)]
-pub struct Weight {
-    pub everybody: bool,
-    pub size: Size,
-}
-
-// What stands behind `assign`, and the place where its condition begins.
-#[derive(Clone, Copy)]
-pub struct Assigned {
+pub struct Assigned<'a> {
     pub admin: u32,
-    pub place: usize,
-    pub weight: Weight,
-    pub names: Names,
+    pub condition: &'a [u8],
+    pub size: Option<Size>,
+    pub names: Option<Names>,
 }

@@ -1,5 +1,5 @@
 // Two sets with `>=` between them: what stands behind `always`, `never`, `possible` and `necessary`.
-ghost use Rattle.std.specs.Prelude.{◌≡◌, true, false};
+ghost use Rattle.std.specs.Prelude.{◌≡◌};
 ghost use Rattle.grammar.specs.Text.{rest};
 ghost use Rattle.lines.specs.declared.keyword.Keyword.TheVariants.{Always, Never};
 ghost use Rattle.lines.specs.Languages.{judged};
@@ -7,22 +7,15 @@ ghost use Rattle.lines.specs.Lines.{Body};
 ghost use Rattle.lines.specs.Readings.{Measures, Builds, TwoSides, weighed};
 
 use crate::change::{Change, Extra};
-use crate::lists::ended;
-use crate::parts::Sizes;
+use crate::parts::{LEVELS, Sizes};
 use grammar::scan::scan;
 use grammar::{Ground, Reader};
+use policy::QUESTION_OPERANDS;
 use trees::read::side;
-
-const OPERANDS: usize = 32;
-
-const LEVELS: usize = 8;
-
-const DEEP: u8 = 8;
 
 // Measures the two sets without building them, whatever their depth.
 fn measure(r: &mut Reader) -> Option<Sizes>
-    ensures text { r.new.text.now ≡ r.old.text.now }
-    ensures read { Measures (rest r.old) result }
+    ensures { Measures (rest r.old) result }
 {
     if !r.take(b' ') {
         return None;
@@ -32,57 +25,51 @@ fn measure(r: &mut Reader) -> Option<Sizes>
         return None;
     }
     let right = scan(r)?;
-    if !ended(r) {
+    if !r.is_at_end() {
         return None;
     }
     Some(Sizes { left, right })
 }
 
 // Builds the two sets, which were measured and found small.
-fn build(r: &mut Reader, extra: &mut Extra) -> bool
+fn build(r: &mut Reader, extra: &mut Extra) -> Option<()>
     ensures { Builds (rest r.old) result extra.new }
 {
     if !r.take(b' ') {
-        return false;
+        return None;
     }
-    match side(r, DEEP) {
-        Some(left) => extra.left = left,
-        None => return false,
-    }
+    extra.left = side(r, LEVELS)?;
     if !r.takes(b" >= ") {
-        return false;
+        return None;
     }
-    match side(r, DEEP) {
-        Some(right) => extra.right = right,
-        None => return false,
-    }
-    true
+    extra.right = side(r, LEVELS)?;
+    Some(())
 }
 
-// The ground to refuse a text of which these three are known, the smallest number first.
-pub fn judge(ranged: bool, small: bool, semi_static: bool) -> Option<Ground>
+// Refuses a text of which these three are known by the ground of the smallest number.
+pub fn judge(ranged: bool, small: bool, semi_static: bool) -> Result<(), Ground>
     ensures { result ≡ judged ranged small semi_static }
 {
     if !ranged {
-        return Some(Ground::Range);
+        return Err(Ground::Range);
     }
     if !small {
-        return Some(Ground::Measure);
+        return Err(Ground::Measure);
     }
     if !semi_static {
-        return Some(Ground::NotSemiStatic);
+        return Err(Ground::NotSemiStatic);
     }
-    None
+    Ok(())
 }
 
-fn weigh(m: Sizes) -> Option<Ground>
+fn weigh(m: Sizes) -> Result<(), Ground>
     ensures { result ≡ weighed m }
 {
     let many = m.left.operands.saturating_add(m.right.operands);
     let deep = m.left.levels.max(m.right.levels);
     judge(
         m.left.fits & m.right.fits,
-        (many <= OPERANDS) & (deep <= LEVELS),
+        (many <= QUESTION_OPERANDS) & (deep <= LEVELS as usize),
         m.left.fixed | m.right.fixed,
     )
 }
@@ -91,37 +78,22 @@ fn weigh(m: Sizes) -> Option<Ground>
 pub fn sides(r: &mut Reader, extra: &mut Extra) -> Result<(), Ground>
     ensures { TwoSides (rest r.old) result extra.new }
 {
-    let start = r.place;
-    match measure(r) {
-        Some(sizes) => match weigh(sizes) {
-            Some(ground) => Err(ground),
-            None => {
-                r.place = start;
-                if build(r, extra) {
-                    Ok(())
-                } else {
-                    Err(Ground::Syntax)
-                }
-            }
-        },
-        None => Err(Ground::Syntax),
-    }
+    let mut again = Reader::new(r.rest(), r.line());
+    let sizes = measure(r).ok_or(Ground::Syntax)?;
+    weigh(sizes)?;
+    build(&mut again, extra).ok_or(Ground::Syntax)
 }
 
 pub fn always(r: &mut Reader, extra: &mut Extra) -> Result<Change, Ground>
     ensures { Body Always (rest r.old) result extra.new }
 {
-    match sides(r, extra) {
-        Ok(_) => Ok(Change::Always),
-        Err(ground) => Err(ground),
-    }
+    sides(r, extra)?;
+    Ok(Change::Always)
 }
 
 pub fn never(r: &mut Reader, extra: &mut Extra) -> Result<Change, Ground>
     ensures { Body Never (rest r.old) result extra.new }
 {
-    match sides(r, extra) {
-        Ok(_) => Ok(Change::Never),
-        Err(ground) => Err(ground),
-    }
+    sides(r, extra)?;
+    Ok(Change::Never)
 }

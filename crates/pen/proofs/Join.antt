@@ -1,6 +1,5 @@
 -- What was written, joined.
-use Rattle.std.proofs.Common.{◌≡◌, ℕ, suc, ◌+◌, ◌/◌, ◌%◌, ◌^◌, ◌<◌, ◌≤◌, min, Bool, true, false, cond, List, [], ◌∷◌, ◌++◌, length, drop, set, decimal, sym, refl, ap, ◌∙◌, subst, append_assoc, zero-add, arith, length-set}
-use Rattle.std.proofs.lemmas.Fmt.{decimal_digit, decimal_step}
+use Rattle.std.proofs.Common.{◌≡◌, ℕ, suc, ◌+◌, ◌≤◌, min, Bool, true, false, cond, List, [], ◌∷◌, ◌++◌, length, drop, set, decimal, sym, refl, ap, ◌∙◌, subst, append_assoc, zero-add, arith, length-set}
 use Rattle.std.proofs.lemmas.List.Edits.{sets, sets-eq}
 use Rattle.std.proofs.lemmas.List.{append-nil}
 use Rattle.lines.specs.Entries.{entries}
@@ -43,12 +42,6 @@ puts_is xs i (x ∷ a) t h =
 
 pub to : (u v : Writer) (a b : List ℕ) → a ≡ b → Wrote u a v → Wrote u b v
 to u v a b e p = subst (λ l. Wrote u l v) e p
-
-pub digit : (u v : Writer) (n : ℕ) → n < 10 → Wrote u ((48 + n) ∷ []) v → Wrote u (decimal n) v
-digit u v n h p = to _ _ _ _ (sym (decimal_digit n h)) p
-
-pub digits : (u v w : Writer) (n : ℕ) → 10 ≤ n → n < 2 ^ 64 → Wrote u (decimal (n / 10)) v → Wrote v ((48 + n % 10) ∷ []) w → Wrote u (decimal n) w
-digits u v w n h f p q = to _ _ _ _ (sym (decimal_step n h f)) (join _ _ _ _ _ p q)
 
 -- a list in ascending order with one number more, or as it was
 module _ (c : ℕ) (f : ℕ → Bool) where

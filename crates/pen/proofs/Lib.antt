@@ -1,4 +1,4 @@
 pub mod Join
+pub mod Naming
 pub mod Canonical
 pub mod Shapes
-pub mod Naming

@@ -1,16 +1,25 @@
--- Whether a list of users names a number, user by user.
-use Rattle.std.proofs.Common.{◌≡◌, ℕ, ◌+◌, ◌<◌, ◌≤◌, true, false, ◌||◌, List, map, length, get_or, drop, sym, ap, ◌∙◌, eq-eqb, ne_eqb}
-use Rattle.std.proofs.lemmas.List.{drop_more, drop_all}
+-- The users of a list as bits, one after the other.
+use Rattle.std.proofs.Common.{◌≡◌, ℕ, zero, suc, ◌+◌, ◌/◌, ◌%◌, ◌<◌, ◌||◌, eqb, List, [], ◌∷◌, ◌++◌, map, length, get_or, take, replicate, sym, refl, ap, ◌∙◌}
+use mathlib.Core.Path.{fun_ext}
+use Rattle.std.proofs.lemmas.List.{take_more, map-append}
+use Rattle.words.specs.Words.{bit, bits, with}
+use Rattle.words.proofs.Bits.{bit_none}
 use Rattle.rbac.specs.declared.users.User.{User}
 use Rattle.policy.specs.Tests.{listed as named}
 use Rattle.lines.specs.Lists.{number_of}
+use Rattle.lines.proofs.Naming.{named_more}
 
-module _ (us : List User) (i k : ℕ) (d : User) where
-  pub names_here : i < length us → (get_or us i d).number ≡ k → named (map number_of (drop i us)) k ≡ true
-  names_here h e = ap (λ l. named (map number_of l) k) (drop_more us i d h) ∙ ap (λ b. b || named (map number_of (drop (i + 1) us)) k) (eq-eqb k (get_or us i d).number (sym e))
+zeros_get : (n i : ℕ) → ◌≡◌ {A = ℕ} (get_or (replicate n 0) i 0) 0
+zeros_get zero i = refl
+zeros_get (suc n) zero = refl
+zeros_get (suc n) (suc i) = zeros_get n i
 
-  pub names_next : i < length us → ((get_or us i d).number ≡ k → ⊥) → named (map number_of (drop i us)) k ≡ named (map number_of (drop (i + 1) us)) k
-  names_next h n = ap (λ l. named (map number_of l) k) (drop_more us i d h) ∙ ap (λ b. b || named (map number_of (drop (i + 1) us)) k) (ne_eqb k (get_or us i d).number (λ e. n (sym e)))
+pub none_named : (n : ℕ) → bits (replicate n 0) ≡ named []
+unfolding bits
+none_named n = fun_ext (λ k. ap (λ w. bit w (k % 64)) (zeros_get n (k / 64)) ∙ bit_none (k % 64))
 
-  pub names_end : length us ≤ i → named (map number_of (drop i us)) k ≡ false
-  names_end h = ap (λ l. named (map number_of l) k) (drop_all i us h)
+pub one_named : (ws vs : List ℕ) (us : List User) (i n : ℕ) (d : User) → i < length us → n ≡ (get_or us i d).number → bits ws ≡ named (map number_of (take i us)) → bits vs ≡ with (bits ws) n → bits vs ≡ named (map number_of (take (i + 1) us))
+one_named ws vs us i n d h q e f =
+    let m : map number_of (take (i + 1) us) ≡ map number_of (take i us) ++ n ∷ [] =
+    ap (map number_of) (take_more us i d h) ∙ map-append number_of (take i us) (get_or us i d ∷ []) ∙ ap (λ k. map number_of (take i us) ++ k ∷ []) (sym q) in
+    f ∙ fun_ext (λ k. ap (λ g. g k || eqb k n) e ∙ sym (named_more (map number_of (take i us)) n k) ∙ ap (λ l. named l k) (sym m))

@@ -1,5 +1,5 @@
 -- The canonical text of a set where it stands.
-use Rattle.std.specs.Prelude.{ℕ, Bool, true, false, List, [], ◌∷◌, ◌++◌, decimal}
+use Rattle.std.specs.Prelude.{ℕ, List, [], ◌∷◌, ◌++◌, decimal}
 use Rattle.trees.specs.declared.nodes.Node.{Node}
 use Rattle.trees.specs.declared.nodes.Node.TheVariants.{Role, Permission, User, Nobody, Or, And}
 use Rattle.policy.specs.Sets.{UserSet}
@@ -22,13 +22,3 @@ leaf (User n) = 123 ∷ 117 ∷ (decimal n ++ 125 ∷ [])
 leaf Nobody = 123 ∷ 125 ∷ []
 leaf Or = 123 ∷ 125 ∷ []
 leaf And = 123 ∷ 125 ∷ []
-
-abbrev pub is_set : Spot → Bool
-is_set Set = true
-is_set Term = false
-is_set Factor = false
-
-abbrev pub is_factor : Spot → Bool
-is_factor Set = false
-is_factor Term = false
-is_factor Factor = true

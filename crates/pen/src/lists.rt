@@ -1,5 +1,5 @@
 // Bytes, numbers, and lists in ascending order.
-ghost use Rattle.std.specs.Prelude.{◌≡◌, ℕ, ◌+◌, ◌-◌, ◌*◌, ◌/◌, ◌%◌, ◌^◌, ◌<◌, ◌≤◌, min, List, [], ◌∷◌, ◌++◌, map, length, decimal};
+ghost use Rattle.std.specs.Prelude.{◌≡◌, ℕ, ◌<◌, Bool, List, [], ◌∷◌, map, decimal};
 ghost use Rattle.rbac.specs.Roles.{roles_of};
 ghost use Rattle.lines.specs.Entries.{entries};
 ghost use Rattle.policy.specs.Tests.{listed as named};
@@ -8,30 +8,17 @@ ghost use Rattle.pen.specs.Puts.{Wrote};
 ghost use Rattle.pen.specs.Ascending.{ascending};
 
 use crate::writer::Writer;
+use itoa::Buffer;
+use policy::{ROLES, USERS};
 use rbac::{Role, RoleSet, User};
+use words::{has, put};
 
 // Whether the role of that number is in the set.
+#[tactic(auto, using(rbac::proofs::Masks::roles_past))]
 fn holds(roles: RoleSet, k: u32) -> bool
     ensures { result ≡ roles_of roles k }
 {
-    match Role::new(k) {
-        Some(role) => roles.contains(role),
-        None => false,
-    }
-}
-
-// Whether a user of that number is in the list.
-fn names(users: &[User], k: u32) -> bool
-    ensures { result ≡ named (map number_of users.now) k }
-{
-    let mut i = 0;
-    while i < users.len() {
-        if users[i].number() as u32 == k {
-            return true;
-        }
-        i += 1;
-    }
-    false
+    Role::new(k).is_some_and(|role| roles.contains(role))
 }
 
 impl Writer<'_> {
@@ -55,11 +42,21 @@ impl Writer<'_> {
     pub fn number(&mut self, n: u64)
         ensures { Wrote self.old (decimal n) self.new }
     {
-        if n < 10 {
-            self.byte(48 + n as u8);
-        } else {
-            self.number(n / 10);
-            self.byte(48 + (n % 10) as u8);
+        let mut digits = Buffer::new();
+        self.bytes(digits.format(n).as_bytes());
+    }
+
+    // A blank, the letter and the number, for each number below the limit that passes, ascending.
+    fn entries<F: Fn(u32) -> bool>(&mut self, letter: u8, limit: u32, passes: F)
+        requires { F.IsAlwaysCallable passes }
+        ensures { (f : ℕ → Bool) → ((k : ℕ) (b : Bool) → k < limit → F.post passes k b → b ≡ f k) → Wrote self.old (entries letter (ascending f limit)) self.new }
+    {
+        for k in 0..limit {
+            if passes(k) {
+                self.byte(b' ');
+                self.byte(letter);
+                self.number(k as u64);
+            }
         }
     }
 
@@ -67,23 +64,17 @@ impl Writer<'_> {
     pub fn roles(&mut self, roles: RoleSet)
         ensures { Wrote self.old (entries 114 (ascending (roles_of roles) 64)) self.new }
     {
-        for k in 0..64u32 {
-            if holds(roles, k) {
-                self.bytes(b" r");
-                self.number(k as u64);
-            }
-        }
+        self.entries(b'r', ROLES as u32, |k| holds(roles, k));
     }
 
     // A blank, u and the number of each user, ascending.
     pub fn users(&mut self, users: &[User])
         ensures { Wrote self.old (entries 117 (ascending (named (map number_of users.now)) 65536)) self.new }
     {
-        for k in 0..65536u32 {
-            if names(users, k) {
-                self.bytes(b" u");
-                self.number(k as u64);
-            }
+        let mut named = [0u64; 1024];
+        for user in users {
+            put(&mut named, user.number() as usize);
         }
+        self.entries(b'u', USERS as u32, |k| has(&named, k as usize));
     }
 }

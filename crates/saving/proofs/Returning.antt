@@ -1,5 +1,5 @@
 -- The canonical text of a line says what the line says, and nothing refuses it.
-use Rattle.std.proofs.Common.{◌≡◌, ℕ, ◌+◌, ◌-◌, ◌≤◌, min, max, true, ◌&&◌, ◌||◌, ltb, leb, List, [], ◌∷◌, ◌++◌, map, length, take, Some, Ok, Err, codes, decimal, Result, sym, refl, ap, ◌∙◌, ap₂, arith, le-leb, leb-true}
+use Rattle.std.proofs.Common.{◌≡◌, ℕ, ◌+◌, ◌-◌, ◌≤◌, max, true, ◌&&◌, ◌||◌, ltb, leb, List, [], ◌∷◌, ◌++◌, map, length, take, Some, Ok, Err, codes, decimal, Option, Result, sym, refl, ap, ◌∙◌, ap₂, arith, le-leb, leb-true}
 use borrow.Author.Tests.{clash}
 use Rattle.std.proofs.lemmas.Bool.{and_parts, and_from}
 use Rattle.std.proofs.lemmas.List.{take_all}
@@ -11,6 +11,9 @@ use Rattle.policy.specs.Sets.{UserSet, as_condition}
 use Rattle.grammar.specs.Phrase.{set, Phrase, render, meaning, levels, operands, in_range, static, roles_alone, Short}
 use Rattle.rbac.specs.Roles.{roles_of}
 use Rattle.rbac.specs.declared.sets.RoleSet.{RoleSet}
+use Rattle.bounded.specs.Entries.{entries as kept}
+use Rattle.trees.specs.Reading.{Nodes, listed}
+use Rattle.lines.proofs.Rowing.{some_is, no_some}
 use Rattle.lines.specs.declared.change.Change.{Change}
 use Rattle.lines.specs.declared.change.Extra.{Extra}
 use Rattle.lines.specs.declared.keyword.Keyword.{Keyword}
@@ -20,71 +23,63 @@ use Rattle.policy.specs.Tests.{listed as named}
 use Rattle.lines.specs.Lists.{number_of}
 use Rattle.lines.specs.Bodies as B
 use Rattle.lines.specs.Bodies.{Row, roles_in, users_in, Clause, always_true, in_set, clause_bytes, ProperClause, clause_ranged, clause_small, condition, Assigning, Sides}
-use Rattle.lines.specs.Lines.{bodies, Sentence, lines, Line, Conditioned, Sided, Lists, Trusts, Means, says_ua, says_pa, says_rh, says_trust, says_assign, says_revoke, says_always, says_never, Fine}
+use Rattle.lines.specs.Lines.{bodies, Sentence, lines, Line, TreeOf, Conditioned, Sided, Lists, Trusts, Means, says_ua, says_pa, says_rh, says_trust, says_assign, says_revoke, says_always, says_never, Fine}
 use Rattle.pen.specs.Ascending.{ascending}
 use Rattle.pen.specs.Canon.{as_set}
 use Rattle.pen.proofs.Canonical.{canonical}
 use Rattle.saving.specs.Canonical as S
 use Rattle.saving.specs.Canonical.{role_row, condition_text, assign_text, side_text, trust_text, text_of}
 use Rattle.saving.specs.RoundTrip.{Value, ua, pa, rh, revoke, trust, assign, always, never, value_of, Fits, Back, RoundTrip, ReadBack}
-use Rattle.saving.proofs.Laying.{text_is, is_true, is_set}
+use Rattle.saving.proofs.Laying.{text_is}
 use Rattle.saving.proofs.Ascends.{sorted}
 
 -- ---- lines of one number and a list
 
+record RowBack (letter limit : ℕ) (between : List ℕ) (x : Row) (n : ℕ) (roles : RoleSet) : Type 0 where
+  row : Row
+  bytes : decimal n ++ (between ++ entries 114 (ascending (roles_of roles) 64)) ≡ decimal row.subject ++ (between ++ entries 114 (roles_in row))
+  proper : (B.rows letter limit between).proper row
+  ranged : (B.rows letter limit between).ranged row ≡ true
+  subject : row.subject ≡ x.subject
+  same : named (roles_in row) ≡ named (roles_in x)
+
+row_back : (letter limit : ℕ) (between : List ℕ) (x : Row) (n : ℕ) (roles : RoleSet) (e : Extra) → (B.rows letter limit between).proper x → (B.rows letter limit between).ranged x ≡ true → n ≡ x.subject → Lists (roles_in x) roles e → RowBack letter limit between x n roles
+row_back letter limit between x n roles e h r q l =
+    let p = and_parts (ltb x.subject limit) (all_below 64 (roles_in x)) r in
+    let s = sorted (roles_of roles) 64 x.first x.more (omega arith) l.set p.1 in
+    record {
+      row = record { subject = x.subject; first = s.first; more = s.more };
+      bytes = ap₂ (λ m ns. decimal m ++ (between ++ entries 114 ns)) q s.is;
+      proper = (h.0, s.short);
+      ranged = and_from _ _ p.0 s.below;
+      subject = refl;
+      same = s.same;
+    }
+
 back_ua : (x : Row) (n : ℕ) (roles : RoleSet) (e : Extra) → Fine (record { keyword = Ua; body = x }) → n ≡ x.subject → Lists (roles_in x) roles e → Back (value_of Ua x) (role_row (codes "ua u") n [] roles)
 back_ua x n roles e h q l =
-    let p = and_parts (ltb x.subject 65536) (all_below 64 (roles_in x)) h.ranged in
-    let s = sorted (roles_of roles) 64 x.first x.more (omega arith) l.set p.1 in
-    let y : Row = record { subject = x.subject; first = s.first; more = s.more } in
-    record {
-      line = record { keyword = Ua; body = y };
-      bytes = ap (λ m. role_row (codes "ua u") m [] roles) q ∙ ap (λ ns. codes "ua u" ++ (decimal x.subject ++ ([] ++ entries 114 ns))) s.is;
-      fine = record { proper = (refl, (h.proper.1.0, s.short)); ranged = and_from _ _ p.0 s.below; small = refl; semi_static = refl };
-      same = ap (ua x.subject) s.same;
-    }
+    let d = row_back 117 65536 [] x n roles e h.proper.1 h.ranged q l in
+    record { line = record { keyword = Ua; body = d.row }; bytes = ap (λ a. codes "ua u" ++ a) d.bytes; fine = record { proper = (refl, d.proper); ranged = d.ranged; small = refl; semi_static = refl }; same = ap₂ ua d.subject d.same }
 
 back_pa : (x : Row) (n : ℕ) (roles : RoleSet) (e : Extra) → Fine (record { keyword = Pa; body = x }) → n ≡ x.subject → Lists (roles_in x) roles e → Back (value_of Pa x) (role_row (codes "pa p") n [] roles)
 back_pa x n roles e h q l =
-    let p = and_parts (ltb x.subject 32) (all_below 64 (roles_in x)) h.ranged in
-    let s = sorted (roles_of roles) 64 x.first x.more (omega arith) l.set p.1 in
-    let y : Row = record { subject = x.subject; first = s.first; more = s.more } in
-    record {
-      line = record { keyword = Pa; body = y };
-      bytes = ap (λ m. role_row (codes "pa p") m [] roles) q ∙ ap (λ ns. codes "pa p" ++ (decimal x.subject ++ ([] ++ entries 114 ns))) s.is;
-      fine = record { proper = (refl, (h.proper.1.0, s.short)); ranged = and_from _ _ p.0 s.below; small = refl; semi_static = refl };
-      same = ap (pa x.subject) s.same;
-    }
+    let d = row_back 112 32 [] x n roles e h.proper.1 h.ranged q l in
+    record { line = record { keyword = Pa; body = d.row }; bytes = ap (λ a. codes "pa p" ++ a) d.bytes; fine = record { proper = (refl, d.proper); ranged = d.ranged; small = refl; semi_static = refl }; same = ap₂ pa d.subject d.same }
 
 back_rh : (x : Row) (n : ℕ) (roles : RoleSet) (e : Extra) → Fine (record { keyword = Rh; body = x }) → n ≡ x.subject → Lists (roles_in x) roles e → Back (value_of Rh x) (role_row (codes "rh r") n [] roles)
 back_rh x n roles e h q l =
-    let p = and_parts (ltb x.subject 64) (all_below 64 (roles_in x)) h.ranged in
-    let s = sorted (roles_of roles) 64 x.first x.more (omega arith) l.set p.1 in
-    let y : Row = record { subject = x.subject; first = s.first; more = s.more } in
-    record {
-      line = record { keyword = Rh; body = y };
-      bytes = ap (λ m. role_row (codes "rh r") m [] roles) q ∙ ap (λ ns. codes "rh r" ++ (decimal x.subject ++ ([] ++ entries 114 ns))) s.is;
-      fine = record { proper = (refl, (h.proper.1.0, s.short)); ranged = and_from _ _ p.0 s.below; small = refl; semi_static = refl };
-      same = ap (rh x.subject) s.same;
-    }
+    let d = row_back 114 64 [] x n roles e h.proper.1 h.ranged q l in
+    record { line = record { keyword = Rh; body = d.row }; bytes = ap (λ a. codes "rh r" ++ a) d.bytes; fine = record { proper = (refl, d.proper); ranged = d.ranged; small = refl; semi_static = refl }; same = ap₂ rh d.subject d.same }
 
 back_revoke : (x : Row) (n : ℕ) (roles : RoleSet) (e : Extra) → Fine (record { keyword = Revoke; body = x }) → n ≡ x.subject → Lists (roles_in x) roles e → Back (value_of Revoke x) (role_row (codes "revoke r") n (codes " :") roles)
 back_revoke x n roles e h q l =
-    let p = and_parts (ltb x.subject 64) (all_below 64 (roles_in x)) h.ranged in
-    let s = sorted (roles_of roles) 64 x.first x.more (omega arith) l.set p.1 in
-    let y : Row = record { subject = x.subject; first = s.first; more = s.more } in
-    record {
-      line = record { keyword = Revoke; body = y };
-      bytes = ap (λ m. role_row (codes "revoke r") m (codes " :") roles) q ∙ ap (λ ns. codes "revoke r" ++ (decimal x.subject ++ ((codes " :") ++ entries 114 ns))) s.is;
-      fine = record { proper = (refl, (h.proper.1.0, s.short)); ranged = and_from _ _ p.0 s.below; small = refl; semi_static = refl };
-      same = ap (revoke x.subject) s.same;
-    }
+    let d = row_back 114 64 (codes " :") x n roles e h.proper.1 h.ranged q l in
+    record { line = record { keyword = Revoke; body = d.row }; bytes = ap (λ a. codes "revoke r" ++ a) d.bytes; fine = record { proper = (refl, d.proper); ranged = d.ranged; small = refl; semi_static = refl }; same = ap₂ revoke d.subject d.same }
 
 back_trust : (x : B.Users) (e : Extra) → Fine (record { keyword = Trust; body = x }) → length (users_in x) ≤ 32 → Trusts (users_in x) e → Back (value_of Trust x) (trust_text e)
 back_trust x e h l t =
-    let m : min e.many 32 ≡ length (users_in x) = let q = t.many in omega arith in
-    let us : map number_of (take (min e.many 32) e.trusted) ≡ users_in x = ap (λ k. map number_of (take k e.trusted)) m ∙ t.first ∙ take_all 32 (users_in x) l in
-    let s = sorted (named (map number_of (take (min e.many 32) e.trusted))) 65536 x.first x.more (omega arith) (ap named us) h.ranged in
+    let us : map number_of (kept e.trusted) ≡ users_in x = t.first ∙ take_all 32 (users_in x) l in
+    let s = sorted (named (map number_of (kept e.trusted))) 65536 x.first x.more (omega arith) (ap named us) h.ranged in
     record {
       line = record { keyword = Trust; body = record { first = s.first; more = s.more } };
       bytes = ap (λ ns. codes "trust" ++ entries 117 ns) s.is;
@@ -163,23 +158,23 @@ back_never x e h s =
 
 -- ---- conditions
 
-record ClauseBack (c : Clause) (e : Extra) : Type 0 where
+record ClauseBack (c : Clause) (tree : Option Nodes) : Type 0 where
   clause : Clause
-  bytes : condition_text e ≡ clause_bytes clause
+  bytes : condition_text tree ≡ clause_bytes clause
   proper : ProperClause clause
   ranged : clause_ranged clause ≡ true
   small : clause_small clause ≡ true
   same : condition clause ≡ condition c
 
-clause_back : (c : Clause) (e : Extra) → ProperClause c → clause_ranged c ≡ true → clause_small c ≡ true → Conditioned c e → ClauseBack c e
-clause_back always_true e p r m h = record { clause = always_true; bytes = sym (is_true e h); proper = tt; ranged = refl; small = refl; same = refl }
-clause_back (in_set p) e q r m h =
+clause_back : (c : Clause) (tree : Option Nodes) → ProperClause c → clause_ranged c ≡ true → clause_small c ≡ true → TreeOf c tree → ClauseBack c tree
+clause_back always_true tree p r m h = record { clause = always_true; bytes = ap condition_text h; proper = tt; ranged = refl; small = refl; same = refl }
+clause_back (in_set p) tree q r m h =
     let o = and_parts (leb (operands (meaning p)) 16) (leb (levels p) 8) m in
     let d = leb-true (levels p) 8 o.1 in
     let f = fewer p r in
     record {
       clause = in_set (as_set (meaning p));
-      bytes = sym (is_set e (meaning p) h.0 h.1);
+      bytes = ap condition_text h.1 ∙ sym (text_is h.0 (meaning p) h.2);
       proper = (short p r, ap roles_alone (says p r) ∙ q.1);
       ranged = in_range_lem p r;
       small = and_from _ _ (ap (λ n. leb n 16) (as_many p r) ∙ o.0) (le-leb (levels (as_set (meaning p))) 8 (omega arith));
@@ -191,7 +186,7 @@ back_assign x n targets e h q l d =
     let p = and_parts (ltb x.row.subject 64) (clause_ranged x.clause && all_below 64 (roles_in x.row)) h.ranged in
     let r = and_parts (clause_ranged x.clause) (all_below 64 (roles_in x.row)) p.1 in
     let s = sorted (roles_of targets) 64 x.row.first x.row.more (omega arith) l.set r.1 in
-    let c = clause_back x.clause e h.proper.1.2 r.0 h.small d in
+    let c = clause_back x.clause e.condition h.proper.1.2 r.0 h.small d in
     let y : Assigning = record { row = record { subject = x.row.subject; first = s.first; more = s.more }; clause = c.clause } in
     record {
       line = record { keyword = Assign; body = y };
@@ -224,8 +219,8 @@ trees_are k b c e (says_trust t) = tt
 trees_are k b c e (says_assign {x = x} q l d) = condition_tree x.clause e d
   where
     condition_tree : (clause : Clause) (f : Extra) → Conditioned clause f → S.AssignTrees f
-    condition_tree always_true f h n = absurd (clash (sym n ∙ h))
-    condition_tree (in_set p) f h n = (meaning p, h.1)
+    condition_tree always_true f h ns n = no_some ns (sym h ∙ n)
+    condition_tree (in_set p) f h ns n = (meaning p, ap (λ (k : Nodes). listed k) (some_is _ _ (sym n ∙ h.1)) ∙ h.2)
 trees_are k b c e (says_revoke q l) = tt
 trees_are k b c e (says_always {x = x} s) = ((meaning x.larger, s.left), (meaning x.smaller, s.right))
 trees_are k b c e (says_never {x = x} s) = ((meaning x.larger, s.left), (meaning x.smaller, s.right))

@@ -1,11 +1,11 @@
 -- The one canonical text of a line, from its change and what lies beside it.
-use Rattle.std.specs.Prelude.{◌≡◌, ℕ, ◌<◌, ◌≤◌, min, false, cond, List, [], ◌++◌, map, length, take, drop, Some, None, codes, decimal, Option}
+use Rattle.std.specs.Prelude.{◌≡◌, ℕ, ◌<◌, ◌≤◌, List, [], ◌++◌, map, length, drop, Some, None, codes, decimal, Option}
 use Rattle.policy.specs.Sets.{UserSet}
 use Rattle.grammar.specs.Phrase.{render}
 use Rattle.rbac.specs.Roles.{roles_of}
 use Rattle.rbac.specs.declared.sets.RoleSet.{RoleSet}
-use Rattle.trees.specs.declared.nodes.Nodes.{Nodes}
-use Rattle.trees.specs.Reading.{postfix, listed}
+use Rattle.bounded.specs.Entries.{entries as kept}
+use Rattle.trees.specs.Reading.{Nodes, postfix, listed}
 use Rattle.trees.specs.Trees.{decode}
 use Rattle.lines.specs.declared.change.Change.{Change}
 use Rattle.lines.specs.declared.change.Change.TheVariants.{Ua, Pa, Rh, Trust, Assign, Revoke, Always, Never}
@@ -29,17 +29,18 @@ text_of ns = set_text (decode (listed ns))
 abbrev pub role_row : List ℕ → ℕ → List ℕ → RoleSet → List ℕ
 role_row word n between roles = word ++ (decimal n ++ (between ++ entries 114 (ascending (roles_of roles) 64)))
 
-abbrev pub condition_text : Extra → List ℕ
-condition_text e = cond e.everybody (codes "true") (text_of e.left)
+abbrev pub condition_text : Option Nodes → List ℕ
+condition_text None = codes "true"
+condition_text (Some ns) = text_of ns
 
 abbrev pub assign_text : ℕ → RoleSet → Extra → List ℕ
-assign_text n targets e = codes "assign r" ++ (decimal n ++ (codes " : " ++ (condition_text e ++ (codes " :" ++ entries 114 (ascending (roles_of targets) 64)))))
+assign_text n targets e = codes "assign r" ++ (decimal n ++ (codes " : " ++ (condition_text e.condition ++ (codes " :" ++ entries 114 (ascending (roles_of targets) 64)))))
 
 abbrev pub side_text : List ℕ → Extra → List ℕ
 side_text word e = word ++ (text_of e.left ++ (codes " >= " ++ text_of e.right))
 
 abbrev pub trust_text : Extra → List ℕ
-trust_text e = codes "trust" ++ entries 117 (ascending (named (map number_of (take (min e.many 32) e.trusted))) 65536)
+trust_text e = codes "trust" ++ entries 117 (ascending (named (map number_of (kept e.trusted))) 65536)
 
 -- the line that says the change
 abbrev pub canonical : Change → Extra → List ℕ
@@ -58,7 +59,7 @@ Whole ns = (t : UserSet) × (listed ns ≡ postfix t)
 
 -- the trees that a change uses are sets
 abbrev pub AssignTrees : Extra → Type 0
-AssignTrees e = e.everybody ≡ false → Whole e.left
+AssignTrees e = (ns : Nodes) → e.condition ≡ Some ns → Whole ns
 
 abbrev pub SideTrees : Extra → Type 0
 SideTrees e = Whole e.left × Whole e.right

@@ -1,4 +1,5 @@
-// Lines in their canonical form, into a lent place.
+// Lines in their canonical form, into a lent place. The writer and what lies beside a change are two parameters: a struct
+// of both would lend again what is lent to `line`, and each promise would name the text through two references.
 ghost use Rattle.std.specs.Prelude.{◌≡◌, ◌<◌, ◌≤◌, min, List, ◌++◌, length, Some, None};
 ghost use Rattle.pen.specs.Puts.{Wrote, puts, top};
 ghost use Rattle.lines.specs.Lines.{Sentence, Means, Fine};
@@ -24,12 +25,11 @@ fn row(w: &mut Writer, word: &[u8], number: u64, between: &[u8], roles: RoleSet)
 
 // `true`, or the set beside the change.
 fn condition(w: &mut Writer, extra: &Extra)
-    ensures { AssignTrees extra.now → Wrote w.old (condition_text extra.now) w.new }
+    ensures { AssignTrees extra.now → Wrote w.old (condition_text extra.now.condition) w.new }
 {
-    if extra.everybody {
-        w.bytes(b"true");
-    } else {
-        write(w, &extra.left.at[0..extra.left.len], Spot::Set);
+    match &extra.condition {
+        Some(nodes) => write(w, nodes.entries(), Spot::Set),
+        None => w.bytes(b"true"),
     }
 }
 
@@ -50,17 +50,17 @@ fn sides(w: &mut Writer, word: &[u8], extra: &Extra)
     ensures { SideTrees extra.now → Wrote w.old (side_text word.now extra.now) w.new }
 {
     w.bytes(word);
-    write(w, &extra.left.at[0..extra.left.len], Spot::Set);
+    write(w, extra.left.entries(), Spot::Set);
     w.bytes(b" >= ");
-    write(w, &extra.right.at[0..extra.right.len], Spot::Set);
+    write(w, extra.right.entries(), Spot::Set);
 }
 
-// The first of the users beside a `trust` line that there is a place for.
+// The users beside a `trust` line.
 fn trust(w: &mut Writer, extra: &Extra)
     ensures { Wrote w.old (trust_text extra.now) w.new }
 {
     w.bytes(b"trust");
-    w.users(&extra.trusted[0..extra.many.min(TRUSTED)]);
+    w.users(extra.trusted.entries());
 }
 
 // Writes the line that says the change, without the byte that ends it.
@@ -127,20 +127,8 @@ pub fn again(
     ensures same { (x : Sentence) → Fine x → Fits x.keyword x.body → Means x.keyword x.body change extra.now → length (canonical change extra.now) ≤ length place.old → ReadBack (value_of x.keyword x.body) result out.new }
     ensures trip { RoundTrip }
 {
-    match write_line(place, change, extra) {
-        Some(n) => {
-            if n > place.len() {
-                return None;
-            }
-            let mut r = Reader {
-                text: &place[0..n],
-                place: 0,
-                line: 1,
-            };
-            Some(read_line(&mut r, out))
-        }
-        None => None,
-    }
+    let n = write_line(place, change, extra)?;
+    let written = place.get(..n)?;
+    let mut r = Reader::new(written, 1);
+    Some(read_line(&mut r, out))
 }
-
-const TRUSTED: usize = 32;

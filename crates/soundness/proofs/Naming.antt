@@ -7,6 +7,7 @@ use Rattle.policy.specs.Rules.{Nth}
 use Rattle.policy.proofs.Numbered.{at_nth}
 use Rattle.policy.proofs.Numbered.{nth_at as nth_place}
 use Rattle.policy.proofs.Tests.{second, both, as_true, as_test}
+use Rattle.rbac.specs.declared.users.User.{User}
 use Rattle.rbac.specs.Roles.{roles_of}
 use Rattle.tables.specs.declared.entries.Row.{Row}
 use Rattle.tables.specs.View.{assigned}
@@ -43,9 +44,9 @@ abbrev pub row_roles : Row → ℕ → Bool
 row_roles x r = roles_of x.roles r
 
 -- what a row's holder tells
-pub holder_tells : (x : Row) (o : Option ℕ) → MatchOption o (is_used x ≡ false) (λ n. (is_used x ≡ true) × (n ≡ x.user.number) × (n < 65536)) → (is_used x ≡ is_some o) × (is_used x ≡ true → x.user.number < 65536)
+pub holder_tells : (x : Row) (o : Option User) → MatchOption o (is_used x ≡ false) (λ u. (is_used x ≡ true) × (u ≡ x.user) × (u.number < 65536)) → (is_used x ≡ is_some o) × (is_used x ≡ true → x.user.number < 65536)
 holder_tells x None h = (h, λ e. absurd (both_ways (is_used x) h e))
-holder_tells x (Some n) h = (h.0, λ _. subst (λ k. k < 65536) h.1 h.2)
+holder_tells x (Some u) h = (h.0, λ _. subst (λ (v : User). v.number < 65536) h.1 h.2)
 
 -- a row more: its roles are joined where it is in use, and where it is not it adds nothing
 pub row_counted : (rows : List Row) (i : ℕ) → i < length rows → (before after : ℕ → Bool) → ((r : ℕ) → before r ≡ any row_roles (take i rows) r)

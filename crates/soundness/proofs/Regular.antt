@@ -1,14 +1,14 @@
 -- The regime's properties, from the sets of roles that they speak of.
-use Rattle.std.proofs.Common.{◌≡◌, ℕ, ◌<◌, Bool, true, false, not, ◌&&◌, ◌||◌, T, eqb, ltb, List, [], ◌∷◌, map, length, get_or, is_some, Some, None, Decides, Option, sym, refl, ap, ◌∙◌, subst, inl, inr, ⊎_elim, lt→ltb, MatchOption}
+use Rattle.std.proofs.Common.{◌≡◌, ℕ, ◌<◌, Bool, true, false, not, ◌||◌, T, eqb, ltb, List, map, length, is_some, Some, None, Decides, Option, sym, refl, ap, ◌∙◌, subst, inl, inr, ⊎_elim, lt→ltb, MatchOption}
 use mathlib.Core.Path.{subst⁻¹}
 use lib.ListN.{length-map}
 use Rattle.std.proofs.lemmas.List.{nil_from_length}
-use Rattle.std.proofs.lemmas.Bool.{both_ways, eq-eqb, eqb-true, and_parts, and_from}
+use Rattle.std.proofs.lemmas.Bool.{both_ways, eq-eqb, eqb-true}
 use Rattle.policy.specs.Membership.{State}
 use Rattle.policy.specs.Rules.{Policy, aatu, aar, Nth}
 use Rattle.policy.specs.Rules.{Regime as RegimeMeant}
 use Rattle.policy.specs.declared.terms.Regime.TheVariants.{Aatu as aatu_here, Aar as aar_here}
-use Rattle.policy.specs.Regimes.{Administers, Assignable, Revocable, AdminsAreNoTargets, AdminsAreAssigned, AssignableIsRevocable, Aatu, Aar, Regular}
+use Rattle.policy.specs.Regimes.{Administers, Assignable, Revocable, AdminsAreNoTargets, Aatu, Aar, Regular}
 use Rattle.policy.proofs.Tests.{either, or_left, or_right, clash, second, both, deny, as_true, as_test}
 use Rattle.rbac.specs.declared.sets.RoleSet.{RoleSet}
 use Rattle.rbac.specs.declared.users.User.{User}
@@ -99,38 +99,23 @@ aatu_kept t es r here is-es is-r = subst⁻¹ (λ (g : RegimeMeant). Decides r (
 )
 
 -- the first of a list is found where the list has one, and then somebody is trusted
-abbrev pub FirstNamed : List User → Option ℕ → Type 0
-FirstNamed us o = MatchOption o (length us ≡ 0) (λ n. (n < 65536) × T (names us n))
+abbrev pub FirstNamed : List User → Option User → Type 0
+FirstNamed us o = MatchOption o (length us ≡ 0) (λ u. (u.number < 65536) × T (names us u.number))
 
-pub first_is_named : (us : List User) (n : ℕ) → false ≡ eqb (length us) 0 → n ≡ (get_or us 0 (record { number = 0 })).number → T (names us n)
-first_is_named [] n some is = absurd (both_ways false refl (some ∙ eq-eqb 0 0 refl))
-first_is_named (x ∷ xs) n some is = or_left (eqb n x.number) (names xs n) (as_test _ (eq-eqb n x.number is))
-
-nobody_trusted : (t : Tables) (o : Option ℕ) (none : Bool) → FirstNamed (entries t.trusted) o → is_some o ≡ not none → Decides none ((u : ℕ) → T (not ((policy_of t).trusted u)))
-nobody_trusted t None none empty is = (
-  (λ _ u. deny ((policy_of t).trusted u) (λ h. subst (λ (l : List User). T (names l u)) (nil_from_length (entries t.trusted) empty) (trusted_named t u h))),
+pub nobody_trusted : (t : Tables) (us : List User) (o : Option User) (none : Bool) → us ≡ entries t.trusted → FirstNamed us o → is_some o ≡ not none → Decides none ((u : ℕ) → T (not ((policy_of t).trusted u)))
+nobody_trusted t us None none is_us empty is = (
+  (λ _ u. deny ((policy_of t).trusted u) (λ h. subst (λ (l : List User). T (names l u)) (sym is_us ∙ nil_from_length us empty) (trusted_named t u h))),
   λ _. other none is,
 )
   where
     other : (b : Bool) → false ≡ not b → b ≡ true
     other true e = refl
     other false e = e
-nobody_trusted t (Some n) none (small, named) is = (
+nobody_trusted t us (Some v) none is_us (small, named) is = (
   (λ e. absurd (both_ways true (is ∙ ap not e) refl)),
-  λ f. absurd (clash ((policy_of t).trusted n) (subst T (trusted_is t n small) named) (f n)),
+  λ f. absurd (clash ((policy_of t).trusted v.number) (subst T (trusted_is t v.number small) (subst (λ (l : List User). T (names l v.number)) is_us named)) (f v.number)),
 )
 
-pub aar_kept : (t : Tables) (us : List User) (o : Option ℕ) (none a b c : Bool) → t.regime ≡ aar_here → us ≡ entries t.trusted → FirstNamed us o → is_some o ≡ not none
-    → Decides a (AdminsAreNoTargets (policy_of t)) → Decides b (AdminsAreAssigned (policy_of t) (state_of t)) → Decides c (AssignableIsRevocable (policy_of t))
-    → Decides (((none && a) && b) && c) (Regular (policy_of t) (state_of t))
-aar_kept t us o none a b c here is_us named is_none da db dc = subst⁻¹ (λ (g : RegimeMeant). Decides (((none && a) && b) && c) (RegimeAsks g (policy_of t) (state_of t))) (regime_is t ∙ ap regime_of here) (
-  (λ e.
-      let (abn, hc) = and_parts ((none && a) && b) c e in
-      let (an, hb) = and_parts (none && a) b abn in
-      let (hn, ha) = and_parts none a an in
-      record { nobody_trusted = nobody.0 hn; no_targets = da.0 ha; assigned = db.0 hb; revocable = dc.0 hc }),
-  λ k. and_from ((none && a) && b) c (and_from (none && a) b (and_from none a (nobody.1 k.nobody_trusted) (da.1 k.no_targets)) (db.1 k.assigned)) (dc.1 k.revocable),
-)
-  where
-    nobody : Decides none ((u : ℕ) → T (not ((policy_of t).trusted u)))
-    nobody = nobody_trusted t o none (subst (λ (l : List User). FirstNamed l o) is_us named) is_none
+pub aar_kept : (t : Tables) (b : Bool) → t.regime ≡ aar_here → Decides b (Aar (policy_of t) (state_of t)) → Decides b (Regular (policy_of t) (state_of t))
+unfolding policy_of
+aar_kept t b here d = subst⁻¹ (λ (g : RegimeMeant). Decides b (RegimeAsks g (policy_of t) (state_of t))) (regime_is t ∙ ap regime_of here) d

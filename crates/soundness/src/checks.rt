@@ -1,8 +1,6 @@
 // Whether plain tables are a board's: users have one row each, conditions are sets of roles, and the regime is kept.
 ghost use Rattle.std.specs.Prelude.{◌≡◌, ℕ, Decides};
 ghost use Rattle.policy.specs.Rules.{Nth};
-ghost use Rattle.trees.specs.Reading.{listed};
-ghost use Rattle.words.specs.Words.{bits};
 ghost use Rattle.tables.specs.declared.entries.AssignEntry.{AssignEntry as Entry};
 ghost use Rattle.bounded.specs.Entries.{entries};
 ghost use Rattle.tables.specs.Rows.{Apart, Clash};
@@ -25,10 +23,11 @@ fn apart_in(rows: &[Row], seen: &mut [u64]) -> bool
 {
     for row in rows {
         if let Some(user) = row.holder() {
-            if has(seen, user as usize) {
+            let bit = user.number() as usize;
+            if has(seen, bit) {
                 return false;
             }
-            put(seen, user as usize);
+            put(seen, bit);
         }
     }
     true

@@ -1,9 +1,9 @@
 // What the regime asks for, as sets of roles: those that administer, those that rules assign and revoke, and those that somebody has.
-ghost use Rattle.std.specs.Prelude.{◌≡◌, ℕ, ◌<◌, Bool, T, length, Decides, MatchOption};
+ghost use Rattle.std.specs.Prelude.{◌≡◌, ℕ, ◌<◌, Bool, not, T, length, Decides, MatchOption};
 ghost use Rattle.policy.specs.Measures.{users};
 ghost use Rattle.policy.specs.Membership.{User as UserNumber, Role as RoleNumber, IsUser};
 ghost use Rattle.policy.specs.Rules.{Nth};
-ghost use Rattle.policy.specs.Regimes.{Administers, Assignable, Revocable, AdminsAreNoTargets, AdminsAreAssigned, AssignableIsRevocable, Regular};
+ghost use Rattle.policy.specs.Regimes.{Administers, Assignable, Revocable, AdminsAreNoTargets, AdminsAreAssigned, AssignableIsRevocable, Aar, Regular};
 ghost use Rattle.rbac.specs.Roles.{roles_of};
 ghost use Rattle.tables.specs.View.{assigned, state_of, policy_of, names};
 
@@ -81,11 +81,11 @@ fn held_in(rows: &[Row]) -> RoleSet
     held
 }
 
-// The number of the first user that the list names, if it names anybody.
-fn first_named(list: &[User]) -> Option<u16>
-    ensures { MatchOption result (length list.now ≡ 0) (λ n. (n < users) × T (names list.now n)) }
+// The first user that the list names, if it names anybody.
+fn first_named(list: &[User]) -> Option<User>
+    ensures { MatchOption result (length list.now ≡ 0) (λ u. (u.number < users) × T (names list.now u.number)) }
 {
-    list.first().map(|user| user.number())
+    list.first().copied()
 }
 
 // The administering roles of all rules.
@@ -137,17 +137,28 @@ pub fn assignable_is_revocable(tables: &Tables) -> bool
     assignable(tables).is_within(revocable(tables))
 }
 
+// Whether nobody is trusted. The first entry is read, and not only the length, since the number of a user that was read is in range.
+fn nobody_trusted(tables: &Tables) -> bool
+    ensures { Decides result ((u : UserNumber) → T (not ((policy_of tables.now).trusted u))) }
+{
+    first_named(tables.trusted.entries()).is_none()
+}
+
+fn aar_kept(tables: &Tables) -> bool
+    ensures { Decides result (Aar (policy_of tables.now) (state_of tables.now)) }
+{
+    nobody_trusted(tables)
+        && admins_are_no_targets(tables)
+        && admins_are_assigned(tables)
+        && assignable_is_revocable(tables)
+}
+
 // Whether the board is as its regime asks.
 pub fn regime_kept(tables: &Tables) -> bool
     ensures { Decides result (Regular (policy_of tables.now) (state_of tables.now)) }
 {
     match tables.regime {
         Regime::Aatu => tables.revokes.entries().is_empty(),
-        Regime::Aar => {
-            first_named(tables.trusted.entries()).is_none()
-                & admins_are_no_targets(tables)
-                & admins_are_assigned(tables)
-                & assignable_is_revocable(tables)
-        }
+        Regime::Aar => aar_kept(tables),
     }
 }

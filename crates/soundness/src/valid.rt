@@ -9,7 +9,7 @@ use tables::Tables;
 
 #[derive(Clone, Copy)]
 pub struct Valid {
-    pub tables: Tables,
+    tables: Tables,
     ghost sound: { (Sound tables → ⊥) → ⊥ },
 }
 

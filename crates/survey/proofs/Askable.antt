@@ -1,5 +1,5 @@
 -- Two sets that a line asks about can be asked.
-use Rattle.std.proofs.Common.{◌≡◌, ℕ, ◌+◌, ◌<◌, ◌≤◌, Bool, true, false, ◌&&◌, T, eqb, leb, length, sym, subst, inl, inr, arith, eqb→eq, ltb→lt, leb→le, length-append}
+use Rattle.std.proofs.Common.{◌≡◌, ℕ, ◌+◌, ◌<◌, ◌≤◌, true, false, ◌&&◌, T, eqb, leb, length, sym, subst, inl, inr, arith, eqb→eq, ltb→lt, leb→le, length-append}
 use Rattle.policy.specs.Tests.{listed}
 use Rattle.policy.specs.Membership.{User, IsUser}
 use Rattle.policy.specs.Sets.{UserSet, members, holders, only, nobody, union, intersection}

@@ -1,9 +1,8 @@
 -- The first line that is refused.
-use Rattle.std.proofs.Common.{◌≡◌, ℕ, suc, ◌+◌, ◌<◌, ◌≤◌, min, true, false, not, ◌⊎◌, List, [], ◌∷◌, ◌++◌, length, Ok, Err, codes, sym, refl, ap, ◌∙◌, subst, inl, inr, ⊎_elim, arith, length-append, eq-eqb}
+use Rattle.std.proofs.Common.{◌≡◌, ℕ, suc, ◌+◌, ◌<◌, ◌≤◌, min, true, false, not, ◌⊎◌, List, [], ◌∷◌, ◌++◌, length, get_or, Err, codes, sym, refl, ap, ◌∙◌, subst, inl, inr, ⊎_elim, arith, length-append, eq-eqb}
 use borrow.Author.Tests.{clash}
 use Rattle.std.proofs.lemmas.Bool.{and_parts}
 use Rattle.std.proofs.lemmas.List.{append_cancel_left}
-use Rattle.grammar.specs.Text.{ahead}
 use Rattle.grammar.specs.declared.grounds.Ground.{Ground}
 use Rattle.grammar.specs.declared.grounds.Ground.TheVariants.{Syntax, Range, Measure, NotSemiStatic}
 use Rattle.lines.specs.Languages.{Refuses, number_of, Unrefused}
@@ -12,10 +11,9 @@ use Rattle.texts.specs.declared.faults.Fault.{Fault}
 use Rattle.texts.specs.declared.faults.Fault.TheVariants.{TooLong, Mark, InLine}
 use Rattle.policy.specs.declared.terms.Regime.{Regime}
 use Rattle.policy.specs.declared.terms.Regime.TheVariants.{Aatu, Aar}
-use Rattle.texts.specs.Board.{goes_on, unbroken, Cut, mark_line, regime_line, longest, BadLine, Begins, Comes}
-use Rattle.texts.specs.declared.faults.Next.TheVariants as next
+use Rattle.texts.specs.Board.{goes_on, unbroken, Cut, mark_line, regime_line, longest, BadLine, Comes}
 use Rattle.lines.specs.declared.change.Extra.{Extra}
-use Rattle.survey.specs.Whole.{Refused, here, endless, later, NoRegime, WholeFault, Before, WholeText}
+use Rattle.survey.specs.Whole.{Refused, here, endless, later, WholeFault, Before, WholeText}
 
 -- ---- a text has one first line
 
@@ -25,10 +23,10 @@ ends b e = ap not (eq-eqb b 10 e)
 -- the byte that ends a line is none of its bytes
 split_one : (l k x y : List ℕ) → unbroken l ≡ true → unbroken k ≡ true → l ++ 10 ∷ x ≡ k ++ 10 ∷ y → (l ≡ k) × (x ≡ y)
 split_one [] [] x y u v e = (refl, cc)
-split_one [] (b ∷ k) x y u v e = absurd (clash (sym (ends b (sym (ap ahead e))) ∙ (and_parts (goes_on b) (unbroken k) v).0))
-split_one (b ∷ l) [] x y u v e = absurd (clash (sym (ends b (ap ahead e)) ∙ (and_parts (goes_on b) (unbroken l) u).0))
+split_one [] (b ∷ k) x y u v e = absurd (clash (sym (ends b (sym (ap (λ s. get_or s 0 0) e))) ∙ (and_parts (goes_on b) (unbroken k) v).0))
+split_one (b ∷ l) [] x y u v e = absurd (clash (sym (ends b (ap (λ s. get_or s 0 0) e)) ∙ (and_parts (goes_on b) (unbroken l) u).0))
 split_one (b ∷ l) (c ∷ k) x y u v e =
-    let a : b ≡ c = ap ahead e in
+    let a : b ≡ c = ap (λ s. get_or s 0 0) e in
     let t : l ++ 10 ∷ x ≡ k ++ 10 ∷ y = cc in
     let r = split_one l k x y (and_parts (goes_on b) (unbroken l) u).1 (and_parts (goes_on c) (unbroken k) v).1 t in
     (ap (λ z. z ∷ l) a ∙ ap (λ z. c ∷ z) r.0, r.1)
@@ -58,21 +56,10 @@ invert l x {s = s} {g = g} c (here k y d r) = inl (subst (λ z. Refuses lines z 
 invert l x {s = s} c (endless u e) = absurd (broken s l x c u)
 invert l x {n = n} {m = m} {s = s} {g = g} c (later k y d r) = inr (subst (λ z. Refused (suc n) z g m) (one_cut s k l y x d c).1 r)
 
-none_empty : (l x : List ℕ) → [] ≡ l ++ 10 ∷ x → ⊥
-none_empty l x e = let h : length {A = ℕ} [] ≡ length l + length (10 ∷ x) = ap length e ∙ length-append l (10 ∷ x) in omega arith
-
-pub nothing_left : {n m : ℕ} {s : List ℕ} {g : Ground} → s ≡ [] → Refused n s g m → ⊥
-nothing_left e (here l x c r) = none_empty l x (sym e ∙ c.text)
-nothing_left e (endless u k) = k e
-nothing_left e (later l x c r) = none_empty l x (sym e ∙ c.text)
-
 -- from line n on, whose text is s, just those lines are refused that are refused in all of the text from line 3 on
 pub record Walked (x0 : List ℕ) (n : ℕ) (s : List ℕ) : Type 0 where
   pub passed : (g : Ground) (m : ℕ) → Refused 3 x0 g m → Refused n s g m
   pub back : (g : Ground) (m : ℕ) → Refused n s g m → Refused 3 x0 g m
-
-pub walk_start : (x : List ℕ) → Walked x 3 x
-walk_start x = record { passed = λ g m r. r; back = λ g m r. r }
 
 pub walk_on : (x0 : List ℕ) (n : ℕ) (s l x : List ℕ) → Walked x0 n s → Cut s l x → Unrefused lines l → Walked x0 (suc n) x
 walk_on x0 n s l x w c u = record {
@@ -85,44 +72,11 @@ walk_on x0 n s l x w c u = record {
 regime_one : (r q : Regime) (x y : List ℕ) → regime_line r ++ x ≡ regime_line q ++ y → x ≡ y
 regime_one Aatu Aatu x y e = append_cancel_left (regime_line Aatu) x y e
 regime_one Aar Aar x y e = append_cancel_left (regime_line Aar) x y e
-regime_one Aatu Aar x y e = let h : 116 ∷ 117 ∷ 10 ∷ x ≡ 114 ∷ 10 ∷ y = append_cancel_left (codes "regime aa") (116 ∷ 117 ∷ 10 ∷ x) (114 ∷ 10 ∷ y) e in let z : ◌≡◌ {A = ℕ} 116 114 = ap ahead h in absurd (omega arith)
-regime_one Aar Aatu x y e = let h : 114 ∷ 10 ∷ x ≡ 116 ∷ 117 ∷ 10 ∷ y = append_cancel_left (codes "regime aa") (114 ∷ 10 ∷ x) (116 ∷ 117 ∷ 10 ∷ y) e in let z : ◌≡◌ {A = ℕ} 114 116 = ap ahead h in absurd (omega arith)
+regime_one Aatu Aar x y e = let h : 116 ∷ 117 ∷ 10 ∷ x ≡ 114 ∷ 10 ∷ y = append_cancel_left (codes "regime aa") (116 ∷ 117 ∷ 10 ∷ x) (114 ∷ 10 ∷ y) e in let z : ◌≡◌ {A = ℕ} 116 114 = ap (λ s. get_or s 0 0) h in absurd (omega arith)
+regime_one Aar Aatu x y e = let h : 114 ∷ 10 ∷ x ≡ 116 ∷ 117 ∷ 10 ∷ y = append_cancel_left (codes "regime aa") (114 ∷ 10 ∷ x) (116 ∷ 117 ∷ 10 ∷ y) e in let z : ◌≡◌ {A = ℕ} 114 116 = ap (λ s. get_or s 0 0) h in absurd (omega arith)
 
 module _ (s : List ℕ) where
-  pub too_long : longest < length s → WholeText s (Err TooLong)
-  too_long h = (h, lower)
-    where
-      lower : (d : Fault) → Before d TooLong → WholeFault s d → ⊥
-      lower TooLong b f = b
-      lower Mark b f = b
-      lower (InLine g n) b f = b
-
   module _ (short : length s ≤ longest) where
-    pub no_mark : ((x : List ℕ) → s ≡ mark_line ++ x → ⊥) → WholeText s (Err Mark)
-    no_mark h = (h, lower)
-      where
-        lower : (d : Fault) → Before d Mark → WholeFault s d → ⊥
-        lower TooLong b f = omega arith
-        lower Mark b f = b
-        lower (InLine g n) b f = b
-
-    pub no_regime : (g : Ground) (n : ℕ) → g ≡ Syntax → n ≡ 2 → NoRegime s → WholeText s (Err (InLine g n))
-    no_regime g n e q h = (inl (q, e, h), lower)
-      where
-        lowest : (d : Ground) → number_of d < 3 → ⊥
-        lowest Syntax l = omega arith
-        lowest Range l = omega arith
-        lowest Measure l = omega arith
-        lowest NotSemiStatic l = omega arith
-
-        lower : (d : Fault) → Before d (InLine g n) → WholeFault s d → ⊥
-        lower TooLong b f = omega arith
-        lower Mark b f = f h.marked.0 h.marked.1
-        lower (InLine k m) (inl l) (inl f) = let z = f.0 in omega arith
-        lower (InLine k m) (inl l) (inr f) = let z = not_before f.3 in omega arith
-        lower (InLine k m) (inr l) (inl f) = lowest k (subst (λ y. number_of k < number_of y) e l.1)
-        lower (InLine k m) (inr l) (inr f) = h.none f.0 f.1 f.2
-
     module _ (r : Regime) (x0 : List ℕ) (text : s ≡ mark_line ++ (regime_line r ++ x0)) where
       marked : WholeFault s Mark → ⊥
       marked f = f (regime_line r ++ x0) text
@@ -131,14 +85,6 @@ module _ (s : List ℕ) where
       from_third : (g : Ground) (n : ℕ) → WholeFault s (InLine g n) → Refused 3 x0 g n
       from_third g n (inl f) = absurd (f.2.none r x0 text)
       from_third g n (inr f) = subst (λ x. Refused 3 x g n) (regime_one f.0 r f.1 x0 (append_cancel_left mark_line (regime_line f.0 ++ f.1) (regime_line r ++ x0) (sym f.2 ∙ text))) f.3
-
-      pub all_read : (n : ℕ) (t : List ℕ) → Walked x0 n t → t ≡ [] → WholeText s (Ok r)
-      all_read n t w e = (none, (x0, text))
-        where
-          none : (d : Fault) → WholeFault s d → ⊥
-          none TooLong f = omega arith
-          none Mark f = marked f
-          none (InLine g m) f = nothing_left e (w.passed g m (from_third g m f))
 
       pub first_fault : (n : ℕ) (t : List ℕ) (g : Ground) → Walked x0 n t → BadLine t g → WholeText s (Err (InLine g n))
       first_fault n t g w bad = (inr (r, x0, text, w.back g n (refused bad)), lower)
@@ -163,7 +109,7 @@ module _ (s : List ℕ) where
           lower (InLine k m) (inl l) f = let z = not_before (w.passed k m (from_third k m f)) in omega arith
           lower (InLine k m) (inr l) f = smaller k l.1 (subst (λ j. Refused n t k j) l.0 (w.passed k m (from_third k m f))) bad
 
-      pub fault_answer : (n : ℕ) (t after : List ℕ) (f : Fault) (e : Extra) → Walked x0 n t → Comes n t (next.Fault f) after e → WholeText s (Err f)
+      pub fault_answer : (n : ℕ) (t after : List ℕ) (f : Fault) (e : Extra) → Walked x0 n t → Comes n t (Err f) after e → WholeText s (Err f)
       fault_answer n t after TooLong e w h = absurd h
       fault_answer n t after Mark e w h = absurd h
       fault_answer n t after (InLine g m) e w h = subst (λ k. WholeText s (Err (InLine g k))) (sym h.0) (first_fault n t g w h.1)
@@ -171,9 +117,3 @@ module _ (s : List ℕ) where
 -- the number of the next line
 pub counted : (x0 : List ℕ) (n m : ℕ) (s : List ℕ) → m ≡ min (n + 1) 18446744073709551615 → n ≤ 65539 → Walked x0 (suc n) s → Walked x0 m s
 counted x0 n m s e l w = let q : suc n ≡ m = omega arith in subst (λ k. Walked x0 k s) q w
-
--- the answer of the first two lines, where they are refused
-pub begun : (s after : List ℕ) (f : Fault) → Begins s (Err f) after → WholeText s (Err f)
-begun s after TooLong h = too_long s h
-begun s after Mark h = no_mark s h.0 h.1
-begun s after (InLine g n) h = no_regime s h.0 g n h.1 h.2 (record { marked = h.3; none = h.4 })

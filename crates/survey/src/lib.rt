@@ -10,34 +10,20 @@ ghost use Rattle.lines.specs.Bodies.{question_of};
 use grammar::Reader;
 use lines::Extra;
 use policy::Regime;
+use texts::Fault;
 use texts::board::{begin, next};
-use texts::{Fault, Next};
 
 // Reads all of a board text: its regime, or its first fault.
 pub fn check(text: &[u8], extra: &mut Extra) -> Result<Regime, Fault>
     ensures { WholeText text.now result }
 {
-    let mut r = Reader {
-        text,
-        place: 0,
-        line: 1,
-    };
-    let regime = match begin(&mut r) {
-        Ok(regime) => regime,
-        Err(fault) => return Err(fault),
-    };
-    'lines: loop {
-        match next(&mut r, extra) {
-            Next::Line(_) => {}
-            Next::Fault(fault) => return Err(fault),
-            Next::End => return Ok(regime),
-        }
-    }
+    let mut r = Reader::new(text, 1);
+    let regime = begin(&mut r)?;
+    'lines: while let Some(_) = next(&mut r, extra)? {}
+    Ok(regime)
 }
 
 // The test that the readers make of two sets decides what the policy calls semi-static.
-pub fn semi_static_stands() -> u8
+pub fn semi_static_stands()
     ensures { (x : Sides) → Decides (sides.semi_static x) (SemiStatic (question_of x)) }
-{
-    0
-}
+{}

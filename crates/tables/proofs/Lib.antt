@@ -3,5 +3,6 @@ pub mod Assigning
 pub mod Rowing
 pub mod Looking
 pub mod Listing
+pub mod Gathering
 pub mod Viewing
 pub mod Freshness

@@ -1,11 +1,12 @@
 -- Assigning and taking a role by one row.
-use Rattle.std.proofs.Common.{◌≡◌, ℕ, zero, suc, ◌<◌, ◌≤◌, Bool, true, false, not, cond, ◌+◌, ◌&&◌, ◌||◌, T, eqb, ltb, ◌≢◌, ◌⊎◌, List, [], ◌∷◌, map, length, set, position, Option, Some, None, MatchOption, Result, Ok, Err, IsErr, sym, refl, ap, ◌∙◌, subst, ap₂, inl, inr, ⊎_elim, not-suc-le-zero, arith, eqb→eq, lt→ltb, ltb→lt, length-set}
+use Rattle.std.proofs.Common.{◌≡◌, ℕ, zero, suc, ◌<◌, ◌≤◌, Bool, true, false, not, ◌&&◌, ◌||◌, T, eqb, ltb, ◌≢◌, ◌⊎◌, List, [], ◌∷◌, map, length, set, position, Option, Some, None, MatchOption, Result, Ok, Err, IsErr, sym, refl, ap, ◌∙◌, subst, ap₂, inl, inr, ⊎_elim, not-suc-le-zero, arith, eqb→eq, lt→ltb, ltb→lt, length-set}
 use mathlib.Core.Path.{subst⁻¹, fun_ext}
 use lib.Dec.{eqb_refl}
 use Rattle.std.proofs.lemmas.Bool.{cases_eq, cases_lt, both_ways, and_parts, and_from, eq-eqb, eqb-true}
-use Rattle.std.specs.List.{position_from}
+use Rattle.std.specs.List.{position_or_len}
+use Rattle.std.proofs.lemmas.Grind.{common_steps}
+use Rattle.std.proofs.lemmas.List.Sums.{fails_before_first}
 use Rattle.std.proofs.lemmas.List.Quantifiers.{position-Some}
-use Rattle.std.proofs.lemmas.Iterator.Adapters.{position_from-zero}
 use Rattle.policy.specs.Bounds.{Holder}
 use Rattle.policy.specs.Granting.{FreeRow, Holders}
 use Rattle.policy.specs.Granting.{Apart as ApartUsers}
@@ -56,21 +57,8 @@ not_true true e f = both_ways false refl e
 not_true false e f = both_ways false refl f
 
 -- a search that finds nothing
-none_from : (p : Row → Bool) (i : ℕ) (xs : List Row) → position_from p i xs ≡ None → (k : ℕ) → k < length xs → p (row_at xs k) ≡ false
-none_from p i [] e k l = absurd (not-suc-le-zero l)
-none_from p i (x ∷ xs) e zero l = at (p x) e
-  where
-    at : (b : Bool) → cond b (Some i) (position_from p (i + 1) xs) ≡ None → b ≡ false
-    at true f = cc
-    at false f = refl
-none_from p i (x ∷ xs) e (suc k) l = none_from p (i + 1) xs (at (p x) e) k (omega arith)
-  where
-    at : (b : Bool) → cond b (Some i) (position_from p (i + 1) xs) ≡ None → position_from p (i + 1) xs ≡ None
-    at true f = cc
-    at false f = f
-
 none_at : (p : Row → Bool) (xs : List Row) → position p xs ≡ None → (k : ℕ) → k < length xs → p (row_at xs k) ≡ false
-none_at p xs e = none_from p 0 xs (sym (position_from-zero p xs) ∙ e)
+none_at p xs e k l = let past : length xs ≤ position_or_len p xs = grind (arith, common_steps) in fails_before_first p xs k no_row (omega arith)
 
 module _ (t : Tables) (i : ℕ) (lt : i < length t.rows) (u : User) (r : Role) (x : Row) (small : u.number < 65536) (given : Given u r (row_at t.rows i) x) where
   abbrev rows : List Row

@@ -4,7 +4,7 @@ use Rattle.policy.proofs.Tests.{second, as_true}
 use Rattle.policy.specs.Terms.{regime_of}
 use Rattle.tables.specs.declared.tables.Tables.{Tables}
 use Rattle.bounded.specs.Entries.{entries}
-use Rattle.tables.specs.View.{policy_of, assign_of, revoke_of, names}
+use Rattle.tables.specs.View.{policy_of, assign_of, names}
 
 pub regime_is : (t : Tables) → (policy_of t).regime ≡ regime_of t.regime
 unfolding policy_of
@@ -13,10 +13,6 @@ regime_is t = refl
 pub assigns_are : (t : Tables) → (policy_of t).assigns ≡ map assign_of (entries t.assigns)
 unfolding policy_of
 assigns_are t = refl
-
-pub revokes_are : (t : Tables) → (policy_of t).revokes ≡ map revoke_of (entries t.revokes)
-unfolding policy_of
-revokes_are t = refl
 
 -- those who are trusted stand in the list, and of users in range nobody else does
 pub trusted_named : (t : Tables) (u : ℕ) → T ((policy_of t).trusted u) → T (names (entries t.trusted) u)

@@ -2,14 +2,14 @@
 use rbac::{Role, RoleSet, User};
 use trees::Nodes;
 
-// A user and the roles assigned to that user. The row is free while it holds no role.
+// A user and the roles assigned to that user. The row is free while it holds no role: rows are plain, and a row with no role says nothing.
 #[derive(Clone, Copy, PartialEq, Eq, Debug)]
 pub struct Row {
     pub user: User,
     pub roles: RoleSet,
 }
 
-// What an assign rule asks of the user who is to get a role: nothing, or a set of roles.
+// What an assign rule asks of the user who is to get a role: nothing, or a set of roles. Not an Option: None would not say whether everybody or nobody is meant.
 #[derive(Clone, Copy)]
 pub enum Needs {
     Everybody,

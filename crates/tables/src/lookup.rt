@@ -1,6 +1,5 @@
 // Of which roles a user is a member, and which permissions that gives.
-ghost use Rattle.std.specs.Prelude.{◌≡◌, ℕ, ◌<◌, ◌&&◌, Decides, ◌==◌};
-ghost use Rattle.policy.specs.Measures.{users};
+ghost use Rattle.std.specs.Prelude.{◌≡◌, ℕ, ◌&&◌, Decides, ◌==◌};
 ghost use Rattle.policy.specs.Membership.{Member};
 ghost use Rattle.policy.specs.Sets.{HasPermission};
 ghost use Rattle.rbac.specs.Roles.{roles_of};
@@ -16,9 +15,10 @@ impl Row {
         ensures { (r : ℕ) → roles_of result r ≡ (user.number == self.now.user.number && roles_of self.now.roles r) }
     {
         if self.user == user {
-            return self.roles;
+            self.roles
+        } else {
+            RoleSet::empty()
         }
-        RoleSet::empty()
     }
 }
 
@@ -27,8 +27,10 @@ impl Tables {
     pub fn assigned(&self, user: User) -> RoleSet
         ensures { roles_of result ≡ state_of self.now user.number }
     {
-        let of_row = |roles: RoleSet, row: &Row| roles.union(row.roles_of(user));
-        self.rows.iter().fold(RoleSet::empty(), of_row)
+        self.rows.iter().fold(
+            RoleSet::empty(),
+            |roles, row| roles.union(row.roles_of(user)),
+        )
     }
 
     pub fn is_member(&self, user: User, role: Role) -> bool

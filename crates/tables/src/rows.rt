@@ -22,14 +22,14 @@ impl Row {
     fn is_of(&self, user: User) -> bool
         ensures { result ≡ is_of user.number self.now }
     {
-        self.is_used() & (self.user == user)
+        self.is_used() && self.user == user
     }
 
-    // The number of the user, where the row is in use.
-    pub fn holder(&self) -> Option<u16>
-        ensures { MatchOption result (is_used self.now ≡ false) (λ n. (is_used self.now ≡ true) × (n ≡ self.now.user.number) × (n < users)) }
+    // The user, where the row is in use.
+    pub fn holder(&self) -> Option<User>
+        ensures { MatchOption result (is_used self.now ≡ false) (λ u. (is_used self.now ≡ true) × (u ≡ self.now.user) × (u.number < users)) }
     {
-        self.is_used().then_some(self.user.number())
+        self.is_used().then_some(self.user)
     }
 
     // The row holds one role more, for this user.

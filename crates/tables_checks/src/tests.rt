@@ -7,8 +7,8 @@ use soundness::{
     held, is_sound, regime_kept, revocable, rows_apart,
 };
 use std::test::Fail;
-use tables::{AssignEntry, Bounded, Needs, RevokeEntry, Row, Tables};
-use trees::{Node, Nodes};
+use tables::{AssignEntry, Bounded, Full, Needs, RevokeEntry, Row, RowsFull, Tables};
+use trees::{Node, no_nodes};
 
 #[test]
 fn a_new_board_is_sound_and_empty(rt: HostRuntime) -> Result<(), Fail> {
@@ -29,13 +29,13 @@ fn the_hundred_and_first_user_has_no_row(rt: HostRuntime) -> Result<(), Fail> {
     let more = Role::new(6).ok_or(1)?;
     for k in 0..100u32 {
         let user = User::new(k * 655).ok_or(1)?;
-        assert!(rt; tables.assign(user, role));
+        assert!(rt; tables.assign(user, role).is_ok());
     }
     let late = User::new(65_535).ok_or(1)?;
     let early = User::new(655).ok_or(1)?;
-    assert!(rt; !tables.assign(late, role));
+    assert_eq!(rt; tables.assign(late, role), Err(RowsFull));
     assert!(rt; !tables.is_member(late, role));
-    assert!(rt; tables.assign(early, more));
+    assert!(rt; tables.assign(early, more).is_ok());
     assert_eq!(rt; tables.assigned(early).word(), 0x60);
     assert!(rt; is_sound(&tables));
     Ok(())
@@ -48,18 +48,18 @@ fn a_row_is_free_when_its_last_role_goes(rt: HostRuntime) -> Result<(), Fail> {
     let more = Role::new(6).ok_or(1)?;
     for k in 0..100u32 {
         let user = User::new(k).ok_or(1)?;
-        assert!(rt; tables.assign(user, role));
+        assert!(rt; tables.assign(user, role).is_ok());
     }
     let middle = User::new(50).ok_or(1)?;
     let late = User::new(65_535).ok_or(1)?;
-    assert!(rt; tables.assign(middle, more));
+    assert!(rt; tables.assign(middle, more).is_ok());
     tables.unassign(middle, role);
-    assert!(rt; !tables.assign(late, role));
+    assert_eq!(rt; tables.assign(late, role), Err(RowsFull));
     tables.unassign(middle, more);
-    assert!(rt; tables.assign(late, role));
+    assert!(rt; tables.assign(late, role).is_ok());
     assert!(rt; tables.is_member(late, role));
     assert!(rt; !tables.is_member(middle, role));
-    assert!(rt; !tables.assign(middle, role));
+    assert_eq!(rt; tables.assign(middle, role), Err(RowsFull));
     Ok(())
 }
 
@@ -100,8 +100,8 @@ fn members_by_seniority_have_the_permission(rt: HostRuntime) -> Result<(), Fail>
         junior,
     });
     tables.gives[31] = RoleSet::one(junior);
-    assert!(rt; tables.assign(user, senior));
-    assert!(rt; tables.assign(other, middle));
+    assert!(rt; tables.assign(user, senior).is_ok());
+    assert!(rt; tables.assign(other, middle).is_ok());
     assert!(rt; tables.is_member(user, junior));
     assert!(rt; !tables.is_member(other, senior));
     assert!(rt; tables.has_permission(user, given));
@@ -119,16 +119,33 @@ fn revocable_board() -> Option<Tables> {
     let target = Role::new(2)?;
     let mut tables = Tables::new();
     tables.regime = Regime::Aar;
-    tables.assign(user, admin);
-    tables.assigns.push(AssignEntry {
+    tables.assign(user, admin).ok()?;
+    let assigning = AssignEntry {
         admin,
         needs: Needs::Everybody,
         targets: RoleSet::one(target),
-    });
-    tables.revokes.push(RevokeEntry {
+    };
+    tables.assigns.push(assigning).ok()?;
+    let revoking = RevokeEntry {
         admin,
         targets: RoleSet::one(target),
-    });
+    };
+    tables.revokes.push(revoking).ok()?;
+    Some(tables)
+}
+
+// The board whose one assign rule asks for the first of these nodes, while the others stay behind them.
+fn with_condition(mut tables: Tables, nodes: &[Node], len: usize) -> Option<Tables> {
+    let mut needs = no_nodes();
+    for node in nodes {
+        needs.push(*node).ok()?;
+    }
+    for i in (len..nodes.len()).rev() {
+        needs.remove(i)?;
+    }
+    let mut rule = tables.assigns.remove(0)?;
+    rule.needs = Needs::Roles(needs);
+    tables.assigns.push(rule).ok()?;
     Some(tables)
 }
 
@@ -137,7 +154,9 @@ fn an_administering_role_is_no_target(rt: HostRuntime) -> Result<(), Fail> {
     let mut tables = revocable_board().ok_or(1)?;
     let admin = Role::new(1).ok_or(1)?;
     assert!(rt; regime_kept(&tables));
-    tables.revokes.places[0].targets = tables.revokes.places[0].targets.insert(admin);
+    let mut rule = tables.revokes.remove(0).ok_or(1)?;
+    rule.targets = rule.targets.insert(admin);
+    assert!(rt; tables.revokes.push(rule).is_ok());
     assert!(rt; !admins_are_no_targets(&tables));
     assert!(rt; admins_are_assigned(&tables) & assignable_is_revocable(&tables));
     assert!(rt; !regime_kept(&tables));
@@ -159,7 +178,7 @@ fn an_administering_role_is_assigned(rt: HostRuntime) -> Result<(), Fail> {
 #[test]
 fn what_is_assigned_can_be_revoked(rt: HostRuntime) -> Result<(), Fail> {
     let mut tables = revocable_board().ok_or(1)?;
-    assert!(rt; tables.revokes.remove(0));
+    assert!(rt; tables.revokes.remove(0).is_some());
     assert!(rt; !assignable_is_revocable(&tables));
     assert!(rt; admins_are_no_targets(&tables) & admins_are_assigned(&tables));
     assert!(rt; !regime_kept(&tables));
@@ -172,33 +191,29 @@ fn what_is_assigned_can_be_revoked(rt: HostRuntime) -> Result<(), Fail> {
 fn each_regime_excludes_what_it_does_not_know(rt: HostRuntime) -> Result<(), Fail> {
     let user = User::new(1).ok_or(1)?;
     let mut tables = revocable_board().ok_or(1)?;
-    assert!(rt; tables.trusted.push(user));
+    assert!(rt; tables.trusted.push(user).is_ok());
     assert!(rt; !regime_kept(&tables));
     tables.regime = Regime::Aatu;
     assert!(rt; !regime_kept(&tables));
-    assert!(rt; tables.revokes.remove(0));
+    assert!(rt; tables.revokes.remove(0).is_some());
     assert!(rt; regime_kept(&tables));
     Ok(())
 }
 
 #[test]
 fn a_condition_is_a_set_of_roles(rt: HostRuntime) -> Result<(), Fail> {
-    let mut tables = revocable_board().ok_or(1)?;
-    let mut at = [Node::Nobody; 63];
-    at[0] = Node::Role(0);
-    at[1] = Node::Role(63);
-    at[2] = Node::And;
-    at[3] = Node::User(1);
-    tables.assigns.places[0].needs = Needs::Roles(Nodes { at, len: 3 });
-    assert!(rt; conditions_whole(&tables));
-    tables.assigns.places[0].needs = Needs::Roles(Nodes { at, len: 2 });
-    assert!(rt; !conditions_whole(&tables));
+    let tables = revocable_board().ok_or(1)?;
+    let mut at = [Node::Role(0), Node::Role(63), Node::And, Node::User(1)];
+    let whole = with_condition(tables, &at, 3).ok_or(1)?;
+    assert!(rt; conditions_whole(&whole));
+    let short = with_condition(tables, &at, 2).ok_or(1)?;
+    assert!(rt; !conditions_whole(&short));
     at[1] = Node::Role(64);
-    tables.assigns.places[0].needs = Needs::Roles(Nodes { at, len: 3 });
-    assert!(rt; !conditions_whole(&tables));
+    let past = with_condition(tables, &at, 3).ok_or(1)?;
+    assert!(rt; !conditions_whole(&past));
     at[1] = Node::Permission(1);
-    tables.assigns.places[0].needs = Needs::Roles(Nodes { at, len: 3 });
-    assert!(rt; !is_sound(&tables));
+    let permission = with_condition(tables, &at, 3).ok_or(1)?;
+    assert!(rt; !is_sound(&permission));
     Ok(())
 }
 
@@ -206,17 +221,17 @@ fn a_condition_is_a_set_of_roles(rt: HostRuntime) -> Result<(), Fail> {
 fn later_entries_move_down(rt: HostRuntime) {
     let mut list: Bounded<u32, 4> = Bounded::new(0);
     for k in 10..14u32 {
-        assert!(rt; list.push(k));
+        assert!(rt; list.push(k).is_ok());
     }
-    assert!(rt; !list.push(14));
-    assert!(rt; list.remove(1));
+    assert!(rt; list.push(14) == Err(Full));
+    assert!(rt; list.remove(1) == Some(11));
     assert_eq!(rt; list.entries().len(), 3);
     assert!(rt; list.get(0) == Some(10));
     assert!(rt; list.get(1) == Some(12));
     assert!(rt; list.get(2) == Some(13));
     assert!(rt; list.get(3) == None);
-    assert!(rt; !list.remove(3));
-    assert!(rt; list.remove(2) && list.remove(0) && list.remove(0));
-    assert!(rt; !list.remove(0));
-    assert!(rt; list.push(15));
+    assert!(rt; list.remove(3) == None);
+    assert!(rt; list.remove(2).is_some() && list.remove(0).is_some() && list.remove(0).is_some());
+    assert!(rt; list.remove(0) == None);
+    assert!(rt; list.push(15).is_ok());
 }

@@ -3,93 +3,74 @@
 
 use grammar::Reader;
 use lines::Extra;
+use texts::Fault;
 use texts::alone::{read_change, read_question};
 use texts::board::{begin, next};
-use texts::{Fault, Next};
 
 const LINES: usize = 65536;
 
-// A fault as its number and its line; 0 and 0 for none.
-pub(crate) fn told(fault: Option<Fault>) -> (u8, usize) {
-    match fault {
-        Some(fault) => (fault.number(), fault.line()),
-        None => (0, 0),
+// The number of a refusal, and 0 where there is none.
+fn number(refused: Option<Fault>) -> u8 {
+    match refused {
+        Some(fault) => fault.number(),
+        None => 0,
     }
 }
 
 pub(crate) fn question(text: &[u8]) -> u8 {
     let mut extra = Extra::new();
-    match read_question(text, &mut extra) {
-        Ok(_) => 0,
-        Err(fault) => fault.number(),
-    }
+    number(read_question(text, &mut extra).err())
 }
 
 pub(crate) fn change(text: &[u8]) -> u8 {
     let mut extra = Extra::new();
-    match read_change(text, &mut extra) {
-        Ok(_) => 0,
-        Err(fault) => fault.number(),
-    }
+    number(read_change(text, &mut extra).err())
 }
 
-// The first fault of a board text.
-pub(crate) fn board(text: &[u8]) -> (u8, usize) {
-    let mut r = Reader {
-        text,
-        place: 0,
-        line: 1,
-    };
-    let mut extra = Extra::new();
-    match begin(&mut r) {
-        Ok(_) => {}
-        Err(fault) => return told(Some(fault)),
-    }
+fn read_lines(text: &[u8], extra: &mut Extra) -> Result<(), Fault> {
+    let mut r = Reader::new(text, 1);
+    begin(&mut r)?;
     for _ in 0..LINES {
-        match next(&mut r, &mut extra) {
-            Next::Line(_) => {}
-            Next::Fault(fault) => return told(Some(fault)),
-            Next::End => return told(None),
+        if next(&mut r, extra)?.is_none() {
+            break;
         }
     }
-    told(None)
+    Ok(())
 }
 
-// How many users the last line of a board text trusts, and whether one is named twice.
-pub(crate) fn trusted(text: &[u8]) -> (usize, bool) {
-    let mut r = Reader {
-        text,
-        place: 0,
-        line: 1,
-    };
+// The first fault of a board text as its number and its line; 0 and 0 for none.
+pub(crate) fn board(text: &[u8]) -> (u8, usize) {
     let mut extra = Extra::new();
-    match begin(&mut r) {
-        Ok(_) => {}
-        Err(_) => return (0, false),
+    match read_lines(text, &mut extra) {
+        Ok(()) => (0, 0),
+        Err(fault) => (fault.number(), fault.line()),
+    }
+}
+
+// How many users the first line behind the regime trusts, and whether one is named twice.
+pub(crate) fn trusted(text: &[u8]) -> (usize, bool) {
+    let mut r = Reader::new(text, 1);
+    let mut extra = Extra::new();
+    if begin(&mut r).is_err() {
+        return (0, false);
     }
     match next(&mut r, &mut extra) {
-        Next::Line(_) => (extra.many, extra.twice),
-        Next::Fault(_) => (0, false),
-        Next::End => (0, false),
+        Ok(Some(_)) => (extra.many, extra.twice),
+        _ => (0, false),
     }
 }
 
 // Puts the bytes into the text from the place on, as far as there is room.
 pub(crate) fn put(text: &mut [u8], place: usize, part: &[u8]) {
-    for i in 0..part.len() {
-        let at = place.saturating_add(i);
-        if at < text.len() {
-            text[at] = part[i];
-        }
+    for (to, from) in text.iter_mut().skip(place).zip(part) {
+        *to = *from;
     }
 }
 
 // Fills a part of the text with one byte.
 pub(crate) fn fill(text: &mut [u8], from: usize, to: usize, byte: u8) {
-    for i in 0..text.len() {
-        if i >= from && i < to {
-            text[i] = byte;
-        }
+    for b in text.iter_mut().take(to).skip(from) {
+        *b = byte;
     }
 }
 
@@ -99,35 +80,24 @@ pub(crate) fn many_users(text: &mut [u8], again: bool) {
     let mut at: usize = 23;
     for k in 0..9000u32 {
         let n = if again && k == 8999 { 0 } else { k };
-        put(text, at, b" u1");
-        put(
-            text,
-            at.saturating_add(3),
-            &[
-                digit(n / 1000),
-                digit(n / 100 % 10),
-                digit(n / 10 % 10),
-                digit(n % 10),
-            ],
-        );
-        at = at.saturating_add(7);
+        let entry = [
+            b' ',
+            b'u',
+            b'1',
+            digit(n / 1000),
+            digit(n / 100),
+            digit(n / 10),
+            digit(n),
+        ];
+        put(text, at, &entry);
+        at = at.saturating_add(entry.len());
     }
     put(text, at, b"\n");
 }
 
+// The last digit of a number.
 fn digit(n: u32) -> u8 {
-    match n {
-        0 => b'0',
-        1 => b'1',
-        2 => b'2',
-        3 => b'3',
-        4 => b'4',
-        5 => b'5',
-        6 => b'6',
-        7 => b'7',
-        8 => b'8',
-        _ => b'9',
-    }
+    b'0' + (n % 10) as u8
 }
 
 #[cfg(test)]

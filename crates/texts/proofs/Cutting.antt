@@ -1,8 +1,8 @@
 -- Lines cut off at the first byte that ends one.
-use Rattle.std.proofs.Common.{◌≡◌, ℕ, suc, ◌+◌, ◌-◌, ◌<◌, ◌≤◌, Bool, true, false, cond, not, eqb, List, [], ◌∷◌, ◌++◌, length, take, drop, sym, refl, ap, ◌∙◌, subst, arith, length-drop, eqb-true}
+use Rattle.std.proofs.Common.{◌≡◌, ℕ, suc, ◌+◌, ◌<◌, ◌≤◌, Bool, true, false, cond, not, eqb, List, [], ◌∷◌, ◌++◌, length, take, drop, sym, refl, ap, ◌∙◌, subst, arith, eqb-true}
 use borrow.Author.Tests.{clash}
 use Rattle.std.proofs.lemmas.Bool.{and_from}
-use Rattle.std.proofs.lemmas.List.{drop-drop, take-append-drop, take_all, append_cancel_left}
+use Rattle.std.proofs.lemmas.List.{take-append-drop, take_all, append_cancel_left}
 use Rattle.grammar.specs.Text.{run, Takes}
 use Rattle.policy.specs.declared.terms.Regime.{Regime}
 use Rattle.policy.specs.declared.terms.Regime.TheVariants.{Aatu, Aar}
@@ -33,24 +33,14 @@ ends_there (b ∷ bs) h = split (goes_on b) refl h (ends_there bs)
     split true e l k = let q : suc (run goes_on bs) + 1 ≡ suc (run goes_on bs + 1) = omega arith in k (omega arith) ∙ ap (λ n. 10 ∷ drop n (b ∷ bs)) (sym q)
     split false e l k = ap (λ x. x ∷ bs) (is_ten e)
 
--- from a place p of the text t
-module _ (t : List ℕ) (p n : ℕ) (fits : p ≤ length t) (is : n ≡ run goes_on (drop p t)) where
-  pub no_cut : p + n ≡ length t → unbroken (drop p t) ≡ true
-  no_cut e =
-      let l : length (drop p t) ≡ length t - p = length-drop p t in
-      subst (λ s. unbroken s ≡ true) (take_all (run goes_on (drop p t)) (drop p t) (omega arith)) (front_unbroken (drop p t))
+module _ (s : List ℕ) (n : ℕ) (is : run goes_on s ≡ n) where
+  pub no_cut : n ≡ length s → unbroken s ≡ true
+  no_cut e = subst (λ t. unbroken t ≡ true) (take_all (run goes_on s) s (omega arith)) (front_unbroken s)
 
-  pub cut_off : (p + n ≡ length t → ⊥) → p + n ≤ length t → Cut (drop p t) (take (p + n - p) (drop p t)) (drop (p + n + 1) t)
+  pub cut_off : (n ≡ length s → ⊥) → n ≤ length s → Cut s (take n s) (drop (n + 1) s)
   cut_off ne le =
-      let s = drop p t in
-      let l : length s ≡ length t - p = length-drop p t in
-      let k : p + n - p ≡ run goes_on s = omega arith in
-      let q : run goes_on s + 1 + p ≡ p + n + 1 = omega arith in
-      record {
-        text = sym (take-append-drop (run goes_on s) s) ∙ ap (λ m. take m s ++ drop (run goes_on s) s) (sym k)
-            ∙ ap (λ x. take (p + n - p) s ++ x) (ends_there s (omega (arith, ne)) ∙ ap (λ x. 10 ∷ x) (drop-drop (run goes_on s + 1) p t ∙ ap (λ m. drop m t) (let z : p + (run goes_on s + 1) ≡ p + n + 1 = omega arith in z)));
-        one = ap (λ m. unbroken (take m s)) k ∙ front_unbroken s;
-      }
+      let P : ℕ → Type 0 = λ k. Cut s (take k s) (drop (k + 1) s) in
+      subst P is (record { text = sym (take-append-drop (run goes_on s) s) ∙ ap (λ x. take (run goes_on s) s ++ x) (ends_there s (omega (arith, ne))); one = front_unbroken s })
 
 -- ---- the first two lines
 

@@ -1,6 +1,5 @@
 -- Questions and changes: the answer of a line carried to the text that it is alone in.
-use Rattle.std.proofs.Common.{◌≡◌, ℕ, ◌<◌, ◌≤◌, true, List, ◌∷◌, length, Some, Ok, Err, Result, sym, refl, ap, ◌∙◌, arith}
-use borrow.Author.Tests.{clash}
+use Rattle.std.proofs.Common.{◌≡◌, ℕ, ◌<◌, ◌≤◌, true, List, ◌∷◌, length, get_or, Some, Ok, Err, Result, sym, refl, ap, ◌∙◌, arith}
 use Rattle.grammar.specs.Text.{ahead}
 use Rattle.grammar.specs.declared.grounds.Ground.{Ground}
 use Rattle.grammar.specs.declared.grounds.Ground.TheVariants.{Syntax, Range, Measure, NotSemiStatic}
@@ -16,10 +15,11 @@ use Rattle.texts.specs.declared.faults.Fault.TheVariants.{TooLong, Mark, InLine}
 use Rattle.texts.specs.declared.faults.Way.{Way}
 use Rattle.texts.specs.declared.faults.Way.TheVariants.{Add, Remove}
 use Rattle.texts.specs.Answers.{told, Faulty, Answer, Asks, asks_possible, asks_necessary, Changing, sign_of, changes}
+use Rattle.policy.specs.declared.terms.Kind.{Kind}
 use Rattle.policy.specs.declared.terms.Kind.TheVariants.{Possible, Necessary}
 use Rattle.lines.specs.Readings.{TwoSides}
 use Rattle.texts.specs.Words.{Starts}
-use Rattle.texts.specs.Sentences.{Asked, Changed, question_of, order_of}
+use Rattle.texts.specs.Sentences.{Lined, Asked, Changed}
 use Rattle.texts.proofs.Starting.{whole_least, whole_unrefused, whole_told}
 
 -- a text that is not too long is refused as its line is
@@ -52,18 +52,24 @@ module _ (L : Language) (s : List ℕ) {A : Type 0} (M : A → L.Form → Type 0
         none Mark w = w
         none (InLine d m) w = n d w.1
 
+-- the answer of a line, as that of the text
+abbrev pub carried : {A : Type 0} → Result A Ground → Result A Fault
+carried (Ok a) = Ok a
+carried (Err g) = Err (InLine g 1)
+
+pub carry : (L : Language) (s : List ℕ) {A : Type 0} (M : A → L.Form → Type 0) → length s ≤ 1024 → (r : Result A Ground) → Lined L s M r → Answer L s M (carried r)
+carry L s M short (Ok a) h = line_fine L s M short a h.0 h.1
+carry L s M short (Err g) h = line_fault L s M short g h
+
 -- ---- a change: its sign, and the line behind it
 
 sign_one : (v w : Way) (x y : List ℕ) → sign_of v ∷ x ≡ sign_of w ∷ y → (v ≡ w) × (x ≡ y)
 sign_one Add Add x y e = (refl, cc)
 sign_one Remove Remove x y e = (refl, cc)
-sign_one Add Remove x y e = let z : 43 ∷ x ≡ 45 ∷ y = e in let q : ahead (43 ∷ x) ≡ ahead (45 ∷ y) = ap ahead z in absurd (omega arith)
-sign_one Remove Add x y e = let z : 45 ∷ x ≡ 43 ∷ y = e in let q : ahead (45 ∷ x) ≡ ahead (43 ∷ y) = ap ahead z in absurd (omega arith)
+sign_one Add Remove x y e = let z : 43 ∷ x ≡ 45 ∷ y = e in let q : ◌≡◌ {A = ℕ} 43 45 = ap (λ l. get_or l 0 0) z in absurd (omega arith)
+sign_one Remove Add x y e = let z : 45 ∷ x ≡ 43 ∷ y = e in let q : ◌≡◌ {A = ℕ} 45 43 = ap (λ l. get_or l 0 0) z in absurd (omega arith)
 
-first_sign : (w : Way) (x : List ℕ) → ahead (sign_of w ∷ x) ≡ sign_of w
-first_sign w x = refl
-
-pub unsigned : (s : List ℕ) → (ahead s ≡ 43 → ⊥) → (ahead s ≡ 45 → ⊥) → Least changes s Syntax
+pub unsigned : (s : List ℕ) → (ahead s ≡ Some 43 → ⊥) → (ahead s ≡ Some 45 → ⊥) → Least changes s Syntax
 unsigned s p m = syntax_least changes s (λ x w. no x.way (lines.bytes x.line) w.0)
   where
     no : (v : Way) (y : List ℕ) → s ≡ sign_of v ∷ y → ⊥
@@ -90,10 +96,7 @@ module _ (s s1 : List ℕ) (way : Way) (e : s ≡ sign_of way ∷ s1) where
   back NotSemiStatic (x, w, f) = (x.line, (inner x w).1, f)
 
   same_fails : (g : Ground) (y : Changing) → Fails lines y.line g → Fails changes y g
-  same_fails Syntax y f = f
-  same_fails Range y f = f
-  same_fails Measure y f = f
-  same_fails NotSemiStatic y f = f
+  same_fails g y f = grind arith
 
   pub change_refused : (g : Ground) (x : Extra) → Line s1 (Err g) x → Changed s (Err g) x
   change_refused g x (r, n, f) = (there g r, (λ d l q. n d l (back d q)), λ y w. same_fails g y (f y.line (inner y w).1))
@@ -107,34 +110,27 @@ module _ (s s1 : List ℕ) (way : Way) (e : s ≡ sign_of way ∷ s1) where
     },
   )
 
-pub change_answer : (s s1 : List ℕ) (way : Way) → s ≡ sign_of way ∷ s1 → (a : Result Change Ground) (x : Extra) → Line s1 a x → Changed s (order_of way a) x
-change_answer s s1 way e (Ok c) x h = change_read s s1 way e c x h
-change_answer s s1 way e (Err g) x h = change_refused s s1 way e g x h
-
 -- ---- a question: its word, and the two sides behind it
 
 pub no_question : (k : Keyword) → (k ≡ keyword.Possible → ⊥) → (k ≡ keyword.Necessary → ⊥) → asks k ≡ true → ⊥
-no_question keyword.Ua p n e = clash e
-no_question keyword.Pa p n e = clash e
-no_question keyword.Rh p n e = clash e
-no_question keyword.Trust p n e = clash e
-no_question keyword.Assign p n e = clash e
-no_question keyword.Revoke p n e = clash e
-no_question keyword.Always p n e = clash e
-no_question keyword.Never p n e = clash e
-no_question keyword.Possible p n e = p refl
-no_question keyword.Necessary p n e = n refl
+no_question k p n e = grind arith
 
-pub possible_answer : (s s1 : List ℕ) → Starts s (Some keyword.Possible) s1 → (a : Result (Unit {0}) Ground) (e : Extra) → TwoSides s1 a e → Asked s (question_of Possible a) e
-possible_answer s s1 h (Ok u) e (n, t) = (
-  whole_unrefused true s s1 keyword.Possible h refl n,
-  whole_told true s s1 keyword.Possible h refl (Asks e Possible) (record { some = (t.some.0, t.some.1, asks_possible t.some.2); every = λ x w. asks_possible (t.every x w) }),
-)
-possible_answer s s1 h (Err g) e b = whole_least true s s1 keyword.Possible h refl g b
+-- the keyword of a question
+abbrev pub asks_by : Kind → Keyword
+asks_by Possible = keyword.Possible
+asks_by Necessary = keyword.Necessary
 
-pub necessary_answer : (s s1 : List ℕ) → Starts s (Some keyword.Necessary) s1 → (a : Result (Unit {0}) Ground) (e : Extra) → TwoSides s1 a e → Asked s (question_of Necessary a) e
-necessary_answer s s1 h (Ok u) e (n, t) = (
-  whole_unrefused true s s1 keyword.Necessary h refl n,
-  whole_told true s s1 keyword.Necessary h refl (Asks e Necessary) (record { some = (t.some.0, t.some.1, asks_necessary t.some.2); every = λ x w. asks_necessary (t.every x w) }),
-)
-necessary_answer s s1 h (Err g) e b = whole_least true s s1 keyword.Necessary h refl g b
+module _ (s s1 : List ℕ) (e : Extra) where
+  pub asks_in_vain : (q : Kind) → Starts s (Some (asks_by q)) s1 → (g : Ground) → TwoSides s1 (Err g) e → Asked s (Err g) e
+  asks_in_vain Possible h g b = whole_least true s s1 keyword.Possible h refl g b
+  asks_in_vain Necessary h g b = whole_least true s s1 keyword.Necessary h refl g b
+
+  pub asks_for : (q : Kind) → Starts s (Some (asks_by q)) s1 → TwoSides s1 (Ok tt) e → Asked s (Ok q) e
+  asks_for Possible h (n, t) = (
+    whole_unrefused true s s1 keyword.Possible h refl n,
+    whole_told true s s1 keyword.Possible h refl (Asks e Possible) (record { some = (t.some.0, t.some.1, asks_possible t.some.2); every = λ x w. asks_possible (t.every x w) }),
+  )
+  asks_for Necessary h (n, t) = (
+    whole_unrefused true s s1 keyword.Necessary h refl n,
+    whole_told true s s1 keyword.Necessary h refl (Asks e Necessary) (record { some = (t.some.0, t.some.1, asks_necessary t.some.2); every = λ x w. asks_necessary (t.every x w) }),
+  )

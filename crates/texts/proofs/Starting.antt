@@ -1,7 +1,10 @@
 -- Words told apart, and answers behind a word carried to the whole line.
-use Rattle.std.proofs.Common.{◌≡◌, ℕ, ◌+◌, ◌*◌, Bool, true, false, cond, eqb, List, [], ◌∷◌, ◌++◌, length, take, drop, Some, None, Ok, Err, Option, Result, sym, refl, ap, ◌∙◌, subst, Bor}
+use Rattle.std.proofs.Common.{◌≡◌, ℕ, Bool, true, false, cond, find, List, [], ◌∷◌, ◌++◌, length, take, drop, Some, None, Ok, Err, Option, Result, sym, refl, ap, ◌∙◌, subst, arith, Bor}
 use borrow.Author.Tests.{clash}
+use Rattle.std.proofs.Math.Seq.{take-append_seam, drop-append_seam}
 use Rattle.std.proofs.lemmas.List.{take-append-drop}
+use Rattle.std.proofs.lemmas.Slice.Eq.{slice_eq-Decides}
+use Rattle.std.proofs.lemmas.Bool.Decides.{Decides-eqb}
 use Rattle.grammar.specs.Text.{is_letter, is_digit, passes, run, Reads, Cut}
 use Rattle.grammar.specs.declared.tokens.Part.{Part}
 use Rattle.grammar.specs.declared.tokens.Part.TheVariants.{Word, Number, Sign, End}
@@ -15,77 +18,37 @@ use Rattle.lines.specs.Languages.{Says, Fails, Refuses, Least, Unrefused, Told}
 use Rattle.lines.specs.Lines.{word, bodies, asks, Sentence, sentences, Means, Body, Line}
 use Rattle.lines.proofs.Judging.{syntax_least}
 use Rattle.lines.proofs.Rowing.{some_is, no_some}
-use Rattle.texts.specs.Words.{Keywords, Starts}
+use Rattle.texts.specs.Words.{spells, Keywords, Starts}
 
--- a number that tells the words apart
-abbrev mark : List ℕ → ℕ
-mark [] = 0
-mark (b ∷ bs) = b + 3 * mark bs
+abbrev pub keywords : List Keyword
+keywords = Ua ∷ Pa ∷ Rh ∷ Trust ∷ Assign ∷ Revoke ∷ Always ∷ Never ∷ Possible ∷ Necessary ∷ []
 
-abbrev marked : ℕ → Keyword
-marked m = cond (eqb m 408) Ua (cond (eqb m 403) Pa (cond (eqb m 426) Rh (cond (eqb m 14012) Trust (cond (eqb m 39385) Assign (cond (eqb m 37686) Revoke (cond (eqb m 41857) Always (cond (eqb m 13436) Never (cond (eqb m 336523) Possible Necessary))))))))
+-- no keyword before it has its spelling
+find_self : (k : Keyword) → find (spells (word k)) keywords ≡ Some k
+find_self k = grind arith
 
-marked_word : (k : Keyword) → marked (mark (word k)) ≡ k
-marked_word Ua = refl
-marked_word Pa = refl
-marked_word Rh = refl
-marked_word Trust = refl
-marked_word Assign = refl
-marked_word Revoke = refl
-marked_word Always = refl
-marked_word Never = refl
-marked_word Possible = refl
-marked_word Necessary = refl
+find_passes : (p : Keyword → Bool) (ks : List Keyword) (k : Keyword) → find p ks ≡ Some k → p k ≡ true
+find_passes p [] k e = cc e
+find_passes p (j ∷ js) k e = go (p j) refl e (find_passes p js k)
+  where
+    go : (b : Bool) → p j ≡ b → cond b (Some j) (find p js) ≡ Some k → (find p js ≡ Some k → p k ≡ true) → p k ≡ true
+    go true h f r = let q : j ≡ k = cc in ap p (sym q) ∙ h
+    go false h f r = r f
 
-word_one : (j k : Keyword) → word j ≡ word k → j ≡ k
-word_one j k e = sym (marked_word j) ∙ ap (λ w. marked (mark w)) e ∙ marked_word k
-
-pub spelt_so : (w : List ℕ) (k : Keyword) → w ≡ word k → Keywords w (Some k)
-spelt_so w k e = record { found = λ j f. ap Some (word_one k j (sym e ∙ f)); real = λ j f. e ∙ ap word (some_is _ _ f) }
+pub spelt_so : (w : List ℕ) → Keywords w (find (spells w) keywords)
+spelt_so w = record {
+  found = λ k e. ap (λ v. find (spells v) keywords) e ∙ find_self k;
+  real = λ k e. sym ((slice_eq-Decides Decides-eqb (word k) w _ refl).0 (find_passes (spells w) keywords k e));
+}
 
 pub letters_word : (k : Keyword) (x : List ℕ) → run is_letter (word k ++ 32 ∷ x) ≡ length (word k)
-letters_word Ua x = refl
-letters_word Pa x = refl
-letters_word Rh x = refl
-letters_word Trust x = refl
-letters_word Assign x = refl
-letters_word Revoke x = refl
-letters_word Always x = refl
-letters_word Never x = refl
-letters_word Possible x = refl
-letters_word Necessary x = refl
+letters_word k x = grind arith
 
 starts_letter : (k : Keyword) (x : List ℕ) → passes is_letter (word k ++ x) ≡ true
-starts_letter Ua x = refl
-starts_letter Pa x = refl
-starts_letter Rh x = refl
-starts_letter Trust x = refl
-starts_letter Assign x = refl
-starts_letter Revoke x = refl
-starts_letter Always x = refl
-starts_letter Never x = refl
-starts_letter Possible x = refl
-starts_letter Necessary x = refl
+starts_letter k x = grind arith
 
 starts_digit : (k : Keyword) (x : List ℕ) → passes is_digit (word k ++ x) ≡ false
-starts_digit Ua x = refl
-starts_digit Pa x = refl
-starts_digit Rh x = refl
-starts_digit Trust x = refl
-starts_digit Assign x = refl
-starts_digit Revoke x = refl
-starts_digit Always x = refl
-starts_digit Never x = refl
-starts_digit Possible x = refl
-starts_digit Necessary x = refl
-
-take_front : (a b : List ℕ) → take (length a) (a ++ b) ≡ a
-take_front [] b = refl
-take_front (x ∷ a) b = ap (λ y. x ∷ y) (take_front a b)
-
-drop_front : (a b : List ℕ) → drop (length a) (a ++ b) ≡ b
-drop_front [] b = refl
-drop_front (x ∷ a) b = drop_front a b
+starts_digit k x = grind arith
 
 none_starts : (s after : List ℕ) → ((k : Keyword) (x : List ℕ) → s ≡ word k ++ 32 ∷ x → ⊥) → Starts s None after
 none_starts s after h = record { found = λ k x e. absurd (h k x e); real = λ k e. no_some k e }
@@ -96,8 +59,8 @@ word_starts p w s after r e h k =
     record {
       found = λ j x f.
           let n : run is_letter s ≡ length (word j) = ap (run is_letter) f ∙ letters_word j x in
-          let front : w.now ≡ word j = c.0 ∙ ap (λ m. take m s) n ∙ ap (take (length (word j))) f ∙ take_front (word j) (32 ∷ x) in
-          (k.found j front, c.1 ∙ ap (λ m. drop m s) n ∙ ap (drop (length (word j))) f ∙ drop_front (word j) (32 ∷ x));
+          let front : w.now ≡ word j = c.0 ∙ ap (λ m. take m s) n ∙ ap (take (length (word j))) f ∙ take-append_seam (word j) (32 ∷ x) in
+          (k.found j front, c.1 ∙ ap (λ m. drop m s) n ∙ ap (drop (length (word j))) f ∙ drop-append_seam (word j) (32 ∷ x));
       real = λ j f. sym (take-append-drop (run is_letter s) s) ∙ ap (λ l. l ++ drop (run is_letter s) s) (sym c.0 ∙ k.real j f) ∙ ap (λ l. word j ++ l) (sym c.1);
     }
 
@@ -164,10 +127,7 @@ module _ (question : Bool) (s s1 : List ℕ) where
       back NotSemiStatic (l, w, e) = invert (λ m. (bodies m.keyword).semi_static m.body ≡ false → Refuses (bodies k) s1 NotSemiStatic) (λ b v f. (b, v, f)) l w e
 
       same_fails : (g : Ground) (b : (bodies k).Form) → Fails (bodies k) b g → Fails (sentences question) (record { keyword = k; body = b }) g
-      same_fails Syntax b f = f
-      same_fails Range b f = f
-      same_fails Measure b f = f
-      same_fails NotSemiStatic b f = f
+      same_fails g b f = grind arith
 
       pub whole_least : (g : Ground) → Least (bodies k) s1 g → Least (sentences question) s g
       whole_least g (r, n, f) = (there g r, (λ d l q. n d l (back d q)), λ l w. invert (λ m. Fails (sentences question) m g) (λ b v. same_fails g b (f b v)) l w)
@@ -178,6 +138,10 @@ module _ (question : Bool) (s s1 : List ℕ) where
       pub whole_told : (P : Sentence → Type 0) → Told (bodies k) s1 (λ b. P (record { keyword = k; body = b })) → Told (sentences question) s P
       whole_told P t = record { some = (record { keyword = k; body = t.some.0 }, whole t.some.0 t.some.1, t.some.2); every = λ l w. invert P (λ b v. t.every b v) l w }
 
-pub line_answer : (s s1 : List ℕ) (k : Keyword) → Starts s (Some k) s1 → asks k ≡ false → (a : Result Change Ground) (e : Extra) → Body k s1 a e → Line s a e
+line_answer : (s s1 : List ℕ) (k : Keyword) → Starts s (Some k) s1 → asks k ≡ false → (a : Result Change Ground) (e : Extra) → Body k s1 a e → Line s a e
 line_answer s s1 k h r (Ok c) e (n, t) = (whole_unrefused false s s1 k h r n, whole_told false s s1 k h r (λ l. Means l.keyword l.body c e) t)
 line_answer s s1 k h r (Err g) e b = whole_least false s s1 k h r g b
+
+-- by the word that was read
+pub line_by : (s s1 : List ℕ) (w k : Keyword) → Starts s (Some w) s1 → w ≡ k → asks k ≡ false → (a : Result Change Ground) (e : Extra) → Body k s1 a e → Line s a e
+line_by s s1 w k h q r a e b = line_answer s s1 k (subst (λ (j : Keyword). Starts s (Some j) s1) q h) r a e b

@@ -8,8 +8,7 @@ use Rattle.lines.specs.Languages.{Least}
 use Rattle.lines.specs.Lines.{lines, Line}
 use Rattle.texts.specs.declared.faults.Fault.{Fault}
 use Rattle.texts.specs.declared.faults.Fault.TheVariants.{TooLong, Mark, InLine}
-use Rattle.texts.specs.declared.faults.Next.{Next}
-use Rattle.texts.specs.declared.faults.Next.TheVariants as next
+use Rattle.lines.specs.declared.change.Change.{Change}
 use Rattle.policy.specs.declared.terms.Regime.{Regime}
 use Rattle.policy.specs.declared.terms.Regime.TheVariants.{Aatu, Aar}
 
@@ -61,15 +60,15 @@ abbrev pub BadLine : List ℕ → Ground → Type 0
 BadLine s g = ((unbroken s ≡ true) × (s ≢ []) × (g ≡ Syntax)) ⊎ ((l : List ℕ) × (x : List ℕ) × (Cut s l x) × (Least lines l g))
 
 -- what comes next in a text whose line of this number begins here
-abbrev pub Comes : ℕ → List ℕ → Next → List ℕ → Extra → Type 0
-Comes n s next.End after e = s ≡ []
-Comes n s (next.Line c) after e = (l : List ℕ) × (Cut s l after) × (Line l (Ok c) e)
-Comes n s (next.Fault TooLong) after e = ⊥
-Comes n s (next.Fault Mark) after e = ⊥
-Comes n s (next.Fault (InLine g m)) after e = (m ≡ n) × BadLine s g
+abbrev pub Comes : ℕ → List ℕ → Result (Option Change) Fault → List ℕ → Extra → Type 0
+Comes n s (Ok None) after e = s ≡ []
+Comes n s (Ok (Some c)) after e = (l : List ℕ) × (Cut s l after) × (Line l (Ok c) e)
+Comes n s (Err TooLong) after e = ⊥
+Comes n s (Err Mark) after e = ⊥
+Comes n s (Err (InLine g m)) after e = (m ≡ n) × BadLine s g
 
 -- a line that was read is counted
-abbrev pub Counts : Next → ℕ → ℕ → Type 0
-Counts next.End n m = Unit {0}
-Counts (next.Line c) n m = m ≡ min (n + 1) 18446744073709551615
-Counts (next.Fault f) n m = Unit {0}
+abbrev pub Counts : Result (Option Change) Fault → ℕ → ℕ → Type 0
+Counts (Ok None) n m = Unit {0}
+Counts (Ok (Some c)) n m = m ≡ min (n + 1) 18446744073709551615
+Counts (Err f) n m = Unit {0}

@@ -1,7 +1,12 @@
 -- The words that lines and questions begin with.
-use Rattle.std.specs.Prelude.{◌≡◌, ℕ, List, ◌∷◌, ◌++◌, Some, Option}
+use Rattle.std.specs.Prelude.{◌≡◌, ℕ, Bool, List, ◌∷◌, ◌++◌, Some, Option, ◌==◌}
+use Rattle.std.specs.Cmp.Lexicographic.{pointwise}
 use Rattle.lines.specs.declared.keyword.Keyword.{Keyword}
 use Rattle.lines.specs.Lines.{word}
+
+-- whether the keyword is spelt so
+abbrev pub spells : List ℕ → Keyword → Bool
+spells w k = pointwise (λ a b. a == b) (word k) w
 
 -- the keyword that is spelt so
 pub record Keywords (w : List ℕ) (r : Option Keyword) : Type 0 where

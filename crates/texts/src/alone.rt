@@ -1,101 +1,79 @@
 // Questions and officers' changes: a text of their own, of one line.
-ghost use Rattle.std.specs.Prelude.{◌≡◌, List};
+ghost use Rattle.std.specs.Prelude.{◌≡◌, ◌<◌, ◌≤◌, List, length, MatchResult};
 ghost use Rattle.grammar.specs.Text.{rest};
-ghost use Rattle.texts.specs.Answers.{Answer, Asks, Orders, changes};
 ghost use Rattle.lines.specs.Lines.{questions};
-ghost use Rattle.texts.specs.Sentences.{Asked, Changed, question_of, order_of};
+ghost use Rattle.texts.specs.Answers.{Answer, Asks, Orders, changes, longest};
+ghost use Rattle.texts.specs.Sentences.{Asked, Changed};
+ghost use Rattle.texts.specs.declared.faults.Fault.TheVariants.{TooLong, InLine as in_line};
 
 use crate::faults::{Fault, Order, Way};
 use crate::line::{begins, read_line};
 use grammar::{Ground, Reader};
 use lines::sides::sides;
-use lines::{Change, Extra, Keyword};
+use lines::{Extra, Keyword};
 use policy::Kind;
 
 const LONGEST: usize = 1024;
-
-fn posed(question: Kind, read: Result<(), Ground>) -> Result<Kind, Ground>
-    ensures { result ≡ question_of question read }
-{
-    match read {
-        Ok(_) => Ok(question),
-        Err(ground) => Err(ground),
-    }
-}
 
 // The question that all of the rest is.
 fn asked(r: &mut Reader, extra: &mut Extra) -> Result<Kind, Ground>
     ensures { Asked (rest r.old) result extra.new }
 {
-    let word = match begins(r) {
-        Some(word) => word,
-        None => return Err(Ground::Syntax),
+    let Some(word) = begins(r) else {
+        return Err(Ground::Syntax);
     };
-    match word {
-        Keyword::Possible => posed(Kind::Possible, sides(r, extra)),
-        Keyword::Necessary => posed(Kind::Necessary, sides(r, extra)),
-        _ => Err(Ground::Syntax),
-    }
-}
-
-fn ordered(way: Way, line: Result<Change, Ground>) -> Result<Order, Ground>
-    ensures { result ≡ order_of way line }
-{
-    match line {
-        Ok(change) => Ok(Order { way, change }),
-        Err(ground) => Err(ground),
-    }
+    let kind = match word {
+        Keyword::Possible => Kind::Possible,
+        Keyword::Necessary => Kind::Necessary,
+        _ => return Err(Ground::Syntax),
+    };
+    sides(r, extra)?;
+    Ok(kind)
 }
 
 // The change that all of the rest is.
 fn changed(r: &mut Reader, extra: &mut Extra) -> Result<Order, Ground>
     ensures { Changed (rest r.old) result extra.new }
 {
-    match r.sign() {
-        '+' => {
-            r.skip();
-            ordered(Way::Add, read_line(r, extra))
-        }
-        '-' => {
-            r.skip();
-            ordered(Way::Remove, read_line(r, extra))
-        }
-        _ => Err(Ground::Syntax),
+    let way = match r.sign() {
+        Some('+') => Way::Add,
+        Some('-') => Way::Remove,
+        _ => return Err(Ground::Syntax),
+    };
+    r.skip();
+    let change = read_line(r, extra)?;
+    Ok(Order { way, change })
+}
+
+// The reader of a text of one line, unless the text is too long.
+fn single(text: &[u8]) -> Result<Reader<'_>, Fault>
+    ensures { MatchResult result (λ r. (length text.now ≤ longest) × (rest r ≡ text.now)) (λ f. (f ≡ TooLong) × (longest < length text.now)) }
+{
+    if text.len() > LONGEST {
+        return Err(Fault::TooLong);
     }
+    Ok(Reader::new(text, 1))
+}
+
+// The fault of a text whose only line is refused.
+fn refused(ground: Ground) -> Fault
+    ensures { result ≡ in_line ground 1 }
+{
+    Fault::InLine { ground, line: 1 }
 }
 
 // Reads a question; its two sets lie beside it.
 pub fn read_question(text: &[u8], extra: &mut Extra) -> Result<Kind, Fault>
     ensures { Answer questions text.now (Asks extra.new) result }
 {
-    if text.len() > LONGEST {
-        return Err(Fault::TooLong);
-    }
-    let mut r = Reader {
-        text,
-        place: 0,
-        line: 1,
-    };
-    match asked(&mut r, extra) {
-        Ok(question) => Ok(question),
-        Err(ground) => Err(Fault::InLine { ground, line: 1 }),
-    }
+    let mut r = single(text)?;
+    asked(&mut r, extra).map_err(refused)
 }
 
 // Reads an officer's change; its trusted users and its trees lie beside it.
 pub fn read_change(text: &[u8], extra: &mut Extra) -> Result<Order, Fault>
     ensures { Answer changes text.now (Orders extra.new) result }
 {
-    if text.len() > LONGEST {
-        return Err(Fault::TooLong);
-    }
-    let mut r = Reader {
-        text,
-        place: 0,
-        line: 1,
-    };
-    match changed(&mut r, extra) {
-        Ok(order) => Ok(order),
-        Err(ground) => Err(Fault::InLine { ground, line: 1 }),
-    }
+    let mut r = single(text)?;
+    changed(&mut r, extra).map_err(refused)
 }

@@ -3,7 +3,7 @@
 
 mod faults;
 
-pub use faults::{Fault, Next, Order, Way};
+pub use faults::{Fault, Order, Way};
 
 pub mod alone;
 pub mod board;

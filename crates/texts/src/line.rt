@@ -1,8 +1,8 @@
 // A whole line: its word decides which reader reads what stands behind it.
-ghost use Rattle.std.specs.Prelude.{◌≡◌, Decides};
+ghost use Rattle.std.specs.Prelude.{◌≡◌, find};
 ghost use Rattle.grammar.specs.Text.{rest};
-ghost use Rattle.lines.specs.Lines.{Line};
-ghost use Rattle.texts.specs.Words.{Keywords, Starts};
+ghost use Rattle.lines.specs.Lines.{word as word_of, Line};
+ghost use Rattle.texts.specs.Words.{spells, Keywords, Starts};
 
 use grammar::{Ground, Part, Reader};
 use lines::assign::assign;
@@ -10,47 +10,48 @@ use lines::rows::{pa, revoke, rh, trust, ua};
 use lines::sides::{always, never};
 use lines::{Change, Extra, Keyword};
 
-fn spelt(word: &[u8], other: &[u8]) -> bool
-    ensures { Decides result (word.now ≡ other.now) }
+const KEYWORDS: [Keyword; 10] = [
+    Keyword::Ua,
+    Keyword::Pa,
+    Keyword::Rh,
+    Keyword::Trust,
+    Keyword::Assign,
+    Keyword::Revoke,
+    Keyword::Always,
+    Keyword::Never,
+    Keyword::Possible,
+    Keyword::Necessary,
+];
+
+fn spelling(keyword: Keyword) -> &'static [u8]
+    ensures { result.now ≡ word_of keyword }
 {
-    word == other
+    match keyword {
+        Keyword::Ua => b"ua",
+        Keyword::Pa => b"pa",
+        Keyword::Rh => b"rh",
+        Keyword::Trust => b"trust",
+        Keyword::Assign => b"assign",
+        Keyword::Revoke => b"revoke",
+        Keyword::Always => b"always",
+        Keyword::Never => b"never",
+        Keyword::Possible => b"possible",
+        Keyword::Necessary => b"necessary",
+    }
+}
+
+// The first of these keywords that is spelt so.
+fn spelt(word: &[u8], among: &[Keyword]) -> Option<Keyword>
+    ensures { result ≡ find (spells word.now) among.now }
+{
+    among.iter().copied().find(|k| spelling(*k) == word)
 }
 
 // The keyword of that spelling.
 fn keyword(word: &[u8]) -> Option<Keyword>
     ensures { Keywords word.now result }
 {
-    if spelt(word, b"ua") {
-        return Some(Keyword::Ua);
-    }
-    if spelt(word, b"pa") {
-        return Some(Keyword::Pa);
-    }
-    if spelt(word, b"rh") {
-        return Some(Keyword::Rh);
-    }
-    if spelt(word, b"trust") {
-        return Some(Keyword::Trust);
-    }
-    if spelt(word, b"assign") {
-        return Some(Keyword::Assign);
-    }
-    if spelt(word, b"revoke") {
-        return Some(Keyword::Revoke);
-    }
-    if spelt(word, b"always") {
-        return Some(Keyword::Always);
-    }
-    if spelt(word, b"never") {
-        return Some(Keyword::Never);
-    }
-    if spelt(word, b"possible") {
-        return Some(Keyword::Possible);
-    }
-    if spelt(word, b"necessary") {
-        return Some(Keyword::Necessary);
-    }
-    None
+    spelt(word, &KEYWORDS)
 }
 
 // The word that a line or a question begins with.
@@ -59,9 +60,7 @@ pub fn begins(r: &mut Reader) -> Option<Keyword>
 {
     match r.token().part {
         Part::Word(word) => keyword(word),
-        Part::Number(_) => None,
-        Part::Sign(_) => None,
-        Part::End => None,
+        Part::Number(_) | Part::Sign(_) | Part::End => None,
     }
 }
 
@@ -69,9 +68,8 @@ pub fn begins(r: &mut Reader) -> Option<Keyword>
 pub fn read_line(r: &mut Reader, extra: &mut Extra) -> Result<Change, Ground>
     ensures { Line (rest r.old) result extra.new }
 {
-    let word = match begins(r) {
-        Some(word) => word,
-        None => return Err(Ground::Syntax),
+    let Some(word) = begins(r) else {
+        return Err(Ground::Syntax);
     };
     match word {
         Keyword::Ua => ua(r, extra),
@@ -82,7 +80,6 @@ pub fn read_line(r: &mut Reader, extra: &mut Extra) -> Result<Change, Ground>
         Keyword::Revoke => revoke(r, extra),
         Keyword::Always => always(r, extra),
         Keyword::Never => never(r, extra),
-        Keyword::Possible => Err(Ground::Syntax),
-        Keyword::Necessary => Err(Ground::Syntax),
+        Keyword::Possible | Keyword::Necessary => Err(Ground::Syntax),
     }
 }

@@ -146,4 +146,4 @@ pub read_ok : (p : Phrase set) (n : ℕ) (s x y : List ℕ) (ns : List Node) →
 read_ok p n s x y ns w e g h = let k : ok x ns ≡ ok y (postfix (meaning p)) = sym h ∙ whole p n s y w e g in (cc, cc)
 
 pub read_bad : (p : Phrase set) (n : ℕ) (s y : List ℕ) → Written s p y → Ends y → Small n p → set_at n s [] ≡ bad → ⊥
-read_bad p n s y w e g h = let k : bad ≡ ok y (postfix (meaning p)) = sym h ∙ whole p n s y w e g in let z : ◌≡◌ {A = ℕ} 0 1 = cc in omega arith
+read_bad p n s y w e g h = let k : bad ≡ ok y (postfix (meaning p)) = sym h ∙ whole p n s y w e g in cc

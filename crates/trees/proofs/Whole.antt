@@ -70,20 +70,10 @@ pub balanced_end : (ns : List Node) (i h : ℕ) → length ns ≤ i → balanced
 balanced_end ns i h l = ap (balanced h) (drop_all i ns l)
 
 leaf_first : (h : ℕ) (n : Node) (ns : List Node) → is_join n ≡ false → balanced h (n ∷ ns) ≡ balanced (h + 1) ns
-leaf_first h (Role n) ns e = refl
-leaf_first h (Permission n) ns e = refl
-leaf_first h (User n) ns e = refl
-leaf_first h Nobody ns e = refl
-leaf_first h Or ns e = absurd (clash (sym e))
-leaf_first h And ns e = absurd (clash (sym e))
+leaf_first h n ns e = grind arith
 
 join_first : (h : ℕ) (n : Node) (ns : List Node) → is_join n ≡ true → balanced h (n ∷ ns) ≡ cond (ltb h 2) false (balanced (h - 1) ns)
-join_first h (Role n) ns e = absurd (clash e)
-join_first h (Permission n) ns e = absurd (clash e)
-join_first h (User n) ns e = absurd (clash e)
-join_first h Nobody ns e = absurd (clash e)
-join_first h Or ns e = refl
-join_first h And ns e = refl
+join_first h n ns e = grind arith
 
 -- a turn of the check, at the node of index i
 module _ (ns : List Node) (i : ℕ) (d : Node) (lt : i < length ns) where
@@ -113,7 +103,7 @@ decoded_set (union a b) ns st = ap (λ l. decoded l st) (two (postfix a) (postfi
 decoded_set (intersection a b) ns st = ap (λ l. decoded l st) (two (postfix a) (postfix b) And ns) ∙ decoded_set a (postfix b ++ And ∷ ns) st ∙ decoded_set b (And ∷ ns) (a ∷ st)
 
 some_not : {A : Type 0} (t : UserSet) → None ≡ Some t → A
-some_not t e = let z : ◌≡◌ {A = ℕ} 0 1 = cc in absurd (omega arith)
+some_not t e = cc
 
 decoded_back : (ns : List Node) (st : List UserSet) (t : UserSet) → decoded ns st ≡ Some t → flat st ++ ns ≡ postfix t
 decoded_back [] [] t e = some_not t e

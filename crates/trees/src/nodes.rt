@@ -2,9 +2,10 @@ ghost use Rattle.std.specs.Prelude.{◌≡◌, []};
 ghost use Rattle.trees.specs.Reading.{listed};
 
 use bounded::Bounded;
+use policy::QUESTION_OPERANDS;
 
-// How many nodes a set of 32 operands has, with the operators between them.
-pub const NODES: usize = 63;
+// How many nodes a set has at most: its operands, and the operators between them.
+pub const NODES: usize = 2 * QUESTION_OPERANDS - 1;
 
 #[derive(Clone, Copy, Debug, PartialEq, Eq)]
 pub enum Node {

@@ -1,24 +1,15 @@
 use Rattle.std.proofs.Common.{◌∙◌}
-use Rattle.grammar.specs.Text.{rest, number}
-use Rattle.lines.specs.Entries.{after, entry_at}
-use Rattle.lines.proofs.Entering.{after_take, after_not}
+use Rattle.lines.proofs.Entering.{entry_no_blank, entry_no_letter, entry_number}
 use Rattle.lines.proofs.lists.entry.Goals as goal
+use Rattle.lines.proofs.lists.entry.Goals.{else-take-via-then-take+else-take-2, else-take-via-else-take}
 
-pub returns-then-not-take : goal.returns-then-not-take
-unfolding entry_at
-returns-then-not-take c = let k = c.if-not-take.ensures in record { text = k.text; read = after_not 32 (rest c.args.r.now) (λ s1. after c.args.letter s1 number) k.read.0 }
+pub returns-then-take-2 : goal.returns-then-take-2
+returns-then-take-2 c = record { read = entry_number _ _ _ _ c.if-take.ensures.read c.if-take-2.ensures.read ∙ c.number.ensures.read }
 
-pub returns-then-not-take-2 : goal.returns-then-not-take-2
-unfolding entry_at
-returns-then-not-take-2 c =
-    let k = c.if-not-take.ensures in
-    let l = c.if-not-take-2.ensures in
-    record { text = l.text ∙ k.text; read = after_take 32 (rest c.args.r.now) _ (λ s1. after c.args.letter s1 number) k.read ∙ after_not c.args.letter (rest c.take.new.self) number l.read.0 }
-
-pub returns : goal.returns
-unfolding entry_at
-returns c =
-    let k = c.if-not-take.ensures in
-    let l = c.if-not-take-2.ensures in
-    let h = c.number.ensures in
-    record { text = h.text ∙ l.text ∙ k.text; read = after_take 32 (rest c.args.r.now) _ (λ s1. after c.args.letter s1 number) k.read ∙ after_take c.args.letter (rest c.take.new.self) _ number l.read ∙ h.read }
+pub returns-else-take : goal.returns-else-take
+returns-else-take c = record {
+  read = elim c.else-take.branch [
+    | else-take-via-then-take+else-take-2 w ↦ entry_no_letter _ _ _ w.if-take.ensures.read w.if-take-2.ensures.read.0
+    | else-take-via-else-take w ↦ entry_no_blank _ _ w.if-take.ensures.read.0
+  ];
+}

@@ -1,23 +1,18 @@
-use Rattle.std.proofs.Common.{[], refl, ◌∙◌, arith}
-use Rattle.lines.specs.Lines.{Means, says_pa}
+use Rattle.std.proofs.Common.{◌≡◌, Err, refl, sym, subst, rules}
+use Rattle.grammar.specs.Text.{rest}
+use Rattle.rbac.specs.declared.permissions.Permission.{Permission}
 use Rattle.lines.specs.declared.keyword.Keyword.TheVariants.{Pa}
-use Rattle.lines.proofs.Rowing.{row_syntax, row_range_number, row_range_roles, row_fine, row_told, untrue, true_then}
+use Rattle.lines.specs.Lines.{Body, says_pa}
+use Rattle.lines.proofs.Judging.{retold}
+use Rattle.lines.proofs.Rowing.{makes_permission}
 use Rattle.lines.proofs.rows.pa.Goals as goal
 
-pub returns-then-not-row : goal.returns-then-not-row
-returns-then-not-row c = row_range_roles 112 32 [] _ c.in-Some.row (c.in-Some.ensures refl) (untrue _ c.if-not-row.true)
+pub returns-in_err-row : goal.returns-in_err-row
+returns-in_err-row c =
+    let q : c.from_residual.result ≡ Err c.in_err-row.field-0.0 = search rules in
+    subst (λ a. Body Pa (rest c.args.r.now) a c.args.extra.now) (sym q) (c.in_err-row.ensures 32 (λ (n : Permission). n.number) (makes_permission) refl)
 
-pub returns-in-Some-new : goal.returns-in-Some-new
-returns-in-Some-new c =
-    let h = c.in-Some.ensures refl in
-    let n = c.in-Some-new.ensures in
-    let s = c.in-Some-new.permission.small in (
-      row_fine 112 32 [] _ c.in-Some.row h (omega arith) (true_then _ c.if-not-row.false),
-      row_told 112 32 [] _ c.in-Some.row h (omega arith) (true_then _ c.if-not-row.false) _ refl (λ x. Means Pa x _ _) (λ x q l. says_pa (n ∙ q) l),
-    )
-
-pub returns-in-None-new : goal.returns-in-None-new
-returns-in-None-new c = row_range_number 112 32 [] _ c.in-Some.row (c.in-Some.ensures refl) c.in-None-new.ensures
-
-pub returns-in-None : goal.returns-in-None
-returns-in-None c = row_syntax 112 32 [] _ (c.in-None.ensures refl)
+pub returns : goal.returns
+returns c =
+    let h = c.in_ok-row.ensures 32 (λ (n : Permission). n.number) (makes_permission) refl in
+    (h.0, retold _ _ h.1 (λ x o. says_pa o.subject_is (record { set = o.names.set; twice = o.names.twice })))

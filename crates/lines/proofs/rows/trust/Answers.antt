@@ -1,15 +1,14 @@
-use Rattle.lines.specs.Lines.{Means, says_trust}
+use Rattle.std.proofs.Common.{◌≡◌, Err, sym, subst, rules}
+use Rattle.grammar.specs.Text.{rest}
 use Rattle.lines.specs.declared.keyword.Keyword.TheVariants.{Trust}
-use Rattle.lines.proofs.Rowing.{users_syntax, users_range, users_fine, users_told}
+use Rattle.lines.specs.Lines.{Body, says_trust}
+use Rattle.lines.proofs.Judging.{retold}
 use Rattle.lines.proofs.rows.trust.Goals as goal
 
-pub returns-then-fits : goal.returns-then-fits
-returns-then-fits c =
-    let h = c.in-Some.ensures in
-    (users_fine _ _ _ h c.if-fits.true, users_told _ _ _ h c.if-fits.true (λ x. Means Trust x _ _) (λ x t. says_trust t))
+pub returns-in_err-users : goal.returns-in_err-users
+returns-in_err-users c =
+    let q : c.from_residual.result ≡ Err c.in_err-users.field-0.0 = search rules in
+    subst (λ a. Body Trust (rest c.args.r.now) a c.users.new.extra) (sym q) c.in_err-users.ensures
 
-pub returns-else-fits : goal.returns-else-fits
-returns-else-fits c = users_range _ _ _ c.in-Some.ensures c.if-fits.false
-
-pub returns-in-None : goal.returns-in-None
-returns-in-None c = users_syntax _ _ c.in-None.ensures
+pub returns : goal.returns
+returns c = (c.in_ok-users.ensures.0, retold _ _ c.in_ok-users.ensures.1 (λ x t. says_trust t))

@@ -1,23 +1,23 @@
-use Rattle.std.proofs.Common.{true, false}
-use Rattle.lines.proofs.Siding.{two_syntax, two_verdict, two_told, two_built, from_text}
+use Rattle.std.proofs.Common.{◌≡◌, Err, sym, ◌∙◌, subst, rules}
+use Rattle.grammar.specs.Text.{rest}
+use Rattle.grammar.specs.declared.grounds.Ground.TheVariants.{Syntax}
+use Rattle.lines.specs.Readings.{Measures, Builds, TwoSides}
+use Rattle.lines.proofs.Siding.{two_syntax, two_verdict, two_told}
 use Rattle.lines.proofs.sides.sides.Goals as goal
 
-pub returns-in-Some-weigh : goal.returns-in-Some-weigh
-returns-in-Some-weigh c = two_verdict _ c.in-Some.sizes c.in-Some.ensures.read _ c.in-Some-weigh.ensures
+pub returns-in_err-sizes : goal.returns-in_err-sizes
+returns-in_err-sizes c =
+    let q : c.from_residual.result ≡ Err Syntax = search rules in
+    subst (λ a. TwoSides (rest c.args.r.now) a c.args.extra.now) (sym q) (two_syntax _ (subst (Measures (rest c.args.r.now)) c.in_err-sizes.ensures.ok_part c.measure.ensures))
 
-pub returns-then-build : goal.returns-then-build
-returns-then-build c =
-    let m = c.in-Some.ensures in
-    let n = c.in-None-weigh.ensures in
-    let b = from_text _ _ c.args.r.now.place true c.build.new.extra m.text c.if-build.ensures in
-    (two_verdict _ c.in-Some.sizes m.read _ n, two_told _ c.in-Some.sizes m.read n _ _ b)
+pub returns-in_err-weigh : goal.returns-in_err-weigh
+returns-in_err-weigh c =
+    let q : c.from_residual-in_err-weigh.result ≡ Err c.in_err-weigh.field-0.0 = search rules in
+    let m = subst (Measures (rest c.args.r.now)) c.in_ok-sizes.ensures.ok_part c.measure.ensures in
+    subst (λ a. TwoSides (rest c.args.r.now) a c.args.extra.now) (sym q) (two_verdict _ c.in_ok-sizes.sizes m (Err c.in_err-weigh.field-0.0) c.in_err-weigh.ensures)
 
-pub returns-else-build : goal.returns-else-build
-returns-else-build c =
-    let m = c.in-Some.ensures in
-    let n = c.in-None-weigh.ensures in
-    let b = from_text _ _ c.args.r.now.place false c.build.new.extra m.text c.if-build.ensures in
-    two_built _ c.in-Some.sizes m.read n _ _ b
-
-pub returns-in-None : goal.returns-in-None
-returns-in-None c = two_syntax _ c.in-None.ensures.read
+pub returns : goal.returns
+returns c =
+    let m = subst (Measures (rest c.args.r.now)) c.in_ok-sizes.ensures.ok_part c.measure.ensures in
+    let b = subst (λ s. Builds s c.build.result c.build.new.extra) (c.new-again.ensures.rest ∙ c.rest.ensures) c.build.ensures in
+    subst (λ a. TwoSides (rest c.args.r.now) a c.build.new.extra) (sym c.ok_or-2.ensures.value) (two_told _ c.in_ok-sizes.sizes m c.in_ok-weigh.ensures c.build.new.extra c.build.result b)

@@ -1,15 +1,13 @@
-use Rattle.std.proofs.Common.{◌≡◌, ◌+◌, ◌≤◌, List, ◌++◌, length, take}
+use Rattle.std.proofs.Common.{◌≡◌, ◌+◌, ◌<◌, ◌≤◌, List, ◌++◌, length}
 use Rattle.policy.specs.Sets.{UserSet}
 use Rattle.trees.specs.Reading.{postfix}
 use Rattle.trees.specs.declared.nodes.Node.{Node}
-use Rattle.pen.proofs.Shapes.{laid}
+use Rattle.pen.proofs.Shapes.{Left}
 use Rattle.pen.proofs.write.begin.Given as goal
 
-abbrev pub invariant-loop-need : goal.invariant-loop-need
-invariant-loop-need l =
-    (l.i ≤ length l.nodes)
-    × (l.need + l.i ≤ length l.nodes + 1)
-    × ((front : List Node) (t : UserSet) → l.nodes ≡ front ++ postfix t → (ts : List UserSet) × (length ts ≡ l.need) × (take l.i l.nodes ≡ front ++ laid ts))
-
-abbrev pub decreases-loop-need : goal.decreases-loop-need
-decreases-loop-need l = l.i
+abbrev pub invariant-loop-i : goal.invariant-loop-i
+invariant-loop-i l =
+    (l.i-iterator.iter.count ≡ 0)
+    × (0 < l.need)
+    × (l.need + length l.i-iterator.iter.iter.rest.now ≤ length l.nodes + 1)
+    × ((front : List Node) (t : UserSet) → l.nodes ≡ front ++ postfix t → Left l.i-iterator.iter.iter.rest.now l.need front)

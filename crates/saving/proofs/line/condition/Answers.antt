@@ -1,11 +1,13 @@
+use Rattle.std.proofs.Common.{sym, ap, ◌∙◌}
 use Rattle.pen.proofs.Join.{to}
-use Rattle.saving.proofs.Laying.{from_start, is_true, is_set}
+use Rattle.saving.specs.Canonical.{condition_text}
+use Rattle.saving.proofs.Laying.{text_is}
 use Rattle.saving.proofs.line.condition.Goals as goal
 
-pub returns-then-extra : goal.returns-then-extra
-returns-then-extra c h = to _ _ _ _ (is_true c.args.extra.now c.if-extra.true) c.bytes.ensures
+pub returns-in-Some : goal.returns-in-Some
+returns-in-Some c h =
+    let (t, l) = h c.in-Some.nodes c.in-Some.is in
+    to _ _ _ _ (text_is c.in-Some.nodes t l ∙ sym (ap condition_text c.in-Some.is)) (c.write.ensures t (c.entries.ensures.all ∙ l))
 
-pub returns-else-extra : goal.returns-else-extra
-returns-else-extra c h =
-    let t = h c.if-extra.false in
-    to _ _ _ _ (is_set c.args.extra.now t.0 c.if-extra.false t.1) (c.write.ensures t.0 (from_start c.args.extra.now.left t.0 t.1))
+pub returns-in-None : goal.returns-in-None
+returns-in-None c h = to _ _ _ _ (sym (ap condition_text c.in-None.is)) c.bytes.ensures

@@ -2,6 +2,7 @@ use Rattle.std.proofs.Common.{◌≡◌, ◌+◌, ◌*◌, ◌/◌, ◌<◌, Boo
 use mathlib.Core.Bool.{false≢true}
 use mathlib.Core.Path.{subst⁻¹}
 use Rattle.words.specs.Words.{bits, with}
+use Rattle.rbac.specs.declared.users.User.{User}
 use Rattle.policy.specs.Measures.{users}
 use Rattle.soundness.proofs.Marking.{Marked, none_marked, row_free, row_marked, marked_twice, all_marked}
 use Rattle.soundness.proofs.checks.apart_in.Goals as goal
@@ -20,13 +21,13 @@ loop-row-preserved c =
     let i = c.loop-row.row-index in
     elim c.match-holder.branch [
       | in-Some+else-has w ↦
-          let n = w.in-Some.user in
-          let small : n < users = w.in-Some.ensures.2 in
+          let n = w.number-bit.result in
+          let small : n < users = w.number-bit.type_inv in
           let long : length c.loop-row.seen * 64 ≡ users = c.loop-row.invariant.1 in
           let fits : w.put.result ≡ true = w.put.ensures.fits ∙ lt-ltb (n / 64) (length c.loop-row.seen) (omega arith) in
           let is : bits w.put.new.words ≡ with (bits c.loop-row.seen) n = put_when w.put.result (bits w.put.new.words ≡ with (bits c.loop-row.seen) n) _ fits w.put.ensures.set in (
             subst⁻¹ (Marked rows (i + 1)) (ap bits w.seen-is ∙ is)
-                (row_marked rows i (bits c.loop-row.seen) c.loop-row.invariant.0 n w.in-Some.ensures.0 w.in-Some.ensures.1 (sym w.has.ensures ∙ w.if-has.false)),
+                (row_marked rows i (bits c.loop-row.seen) c.loop-row.invariant.0 n w.in-Some.ensures.0 (w.number-bit.ensures ∙ ap (λ (u : User). u.number) w.in-Some.ensures.1) (sym w.has.ensures ∙ w.if-has.false)),
             ap (λ m. m * 64) c.match-holder.auto.seen ∙ long,
           )
       | in_default w ↦ (
@@ -38,8 +39,8 @@ loop-row-preserved c =
 pub returns-then-has : goal.returns-then-has
 returns-then-has c = (
   λ e. absurd (false≢true e),
-  λ apart. absurd (marked_twice c.args.rows.now c.loop-row.row-index (bits c.loop-row.seen) c.loop-row.invariant.0 c.in-Some.user c.loop-row-test.true
-      c.in-Some.ensures.0 c.in-Some.ensures.1 (sym c.has.ensures ∙ c.if-has.true) apart),
+  λ apart. absurd (marked_twice c.args.rows.now c.loop-row.row-index (bits c.loop-row.seen) c.loop-row.invariant.0 c.number-bit.result c.loop-row-test.true
+      c.in-Some.ensures.0 (c.number-bit.ensures ∙ ap (λ (u : User). u.number) c.in-Some.ensures.1) (sym c.has.ensures ∙ c.if-has.true) apart),
 )
 
 pub returns : goal.returns

@@ -1,15 +1,10 @@
-use Rattle.std.proofs.Common.{◌≡◌, ℕ, subst, rules, ap}
-use Rattle.std.proofs.lemmas.Fn.{fold_over, slice_gives, fronts}
+use Rattle.std.proofs.Common.{rules}
 use Rattle.rbac.specs.Roles.{roles_of}
-use Rattle.tables.proofs.Listing.{any, any_joined}
+use Rattle.tables.proofs.Gathering.{gathered}
 use Rattle.soundness.proofs.Naming.{by_admin, admins_decided}
 use Rattle.soundness.proofs.regime.admins_of.Goals as goal
 
 pub returns : goal.returns
 returns g c =
-    let admin = by_admin g.R.Rule.administers in
     admins_decided g.R.Rule.administers c.args.rules.now (roles_of c.fold.result)
-    (subst (λ rules. (r : ℕ) → roles_of c.fold.result r ≡ any admin rules r) c.iter.ensures.rest
-    (fold_over fronts (λ y. y.now) _ (λ ys s. (r : ℕ) → roles_of s r ≡ any admin ys r) _
-    (λ ys a x b f' j k. (any_joined admin ys x.now (roles_of a) (roles_of b) j (search rules), search rules))
-    _ _ _ _ (slice_gives c.iter.result) (λ r. ap (λ f. f r) c.empty.ensures) c.fold.ensures.ran))
+    (gathered _ _ (by_admin g.R.Rule.administers) (λ a x b f' k. (search rules, search rules)) c.iter.result c.args.rules.now c.iter.ensures.rest _ _ c.empty.ensures c.fold.ensures.ran)

@@ -1,20 +1,25 @@
-use Rattle.std.proofs.Common.{sym, subst, arith}
+use Rattle.std.proofs.Common.{◌≡◌, ◌∷◌, Some, Err, sym, ap, ◌∙◌, subst, rules}
 use Rattle.grammar.specs.Text.{rest}
 use Rattle.trees.proofs.Steps.{passed}
+use Rattle.texts.specs.Answers.{sign_of}
 use Rattle.texts.specs.Sentences.{Changed}
-use Rattle.texts.specs.declared.faults.Way.TheVariants.{Add, Remove}
-use Rattle.texts.proofs.Single.{unsigned, change_answer}
+use Rattle.texts.proofs.Single.{change_refused, change_read}
 use Rattle.texts.proofs.alone.changed.Goals as goal
+use Rattle.texts.proofs.alone.changed.Goals.{After-read_line, in-Some-eq43, in-Some-eq45}
 
-pub returns-in-43 : goal.returns-in-43
-returns-in-43 c =
-    subst (λ a. Changed (rest c.args.r.now) a c.read_line.new.extra) (sym c.ordered.ensures)
-    (change_answer (rest c.args.r.now) (rest c.skip.new.self) Add (passed _ _ _ 43 c.sign.ensures c.in-43.is (omega arith) c.skip.ensures.read) c.read_line.result _ c.read_line.ensures)
+-- the sign of the way was seen and passed
+signed : (c : After-read_line) → rest c.args.r.now ≡ sign_of c.match-sign-2.way' ∷ rest c.skip.new.self
+signed c =
+    let seen : c.sign.result ≡ Some (sign_of c.match-sign-2.way') = elim c.match-sign-2.branch [
+      | in-Some-eq43 w ↦ let s : c.sign.result ≡ Some 43 = search rules in s ∙ ap (λ v. Some (sign_of v)) (sym w.way'-is)
+      | in-Some-eq45 w ↦ let s : c.sign.result ≡ Some 45 = search rules in s ∙ ap (λ v. Some (sign_of v)) (sym w.way'-is)
+    ] in
+    passed _ _ _ _ c.sign.ensures seen c.skip.ensures.read
 
-pub returns-in-45 : goal.returns-in-45
-returns-in-45 c =
-    subst (λ a. Changed (rest c.args.r.now) a c.read_line-in-45.new.extra) (sym c.ordered-in-45.ensures)
-    (change_answer (rest c.args.r.now) (rest c.skip-in-45.new.self) Remove (passed _ _ _ 45 c.sign.ensures c.in-45.is (omega arith) c.skip-in-45.ensures.read) c.read_line-in-45.result _ c.read_line-in-45.ensures)
+pub returns-in_err-change : goal.returns-in_err-change
+returns-in_err-change c =
+    let q : c.from_residual.result ≡ Err c.in_err-change.field-0.0 = search rules in
+    subst (λ a. Changed (rest c.args.r.now) a c.read_line.new.extra) (sym q) (change_refused _ _ _ (signed (goal.at.returns-in_err-change c).After-read_line) _ c.read_line.new.extra c.in_err-change.ensures)
 
-pub returns-in_default : goal.returns-in_default
-returns-in_default c = unsigned (rest c.args.r.now) (λ e. let q = c.sign.ensures in omega arith) (λ e. let q = c.sign.ensures in omega arith)
+pub returns : goal.returns
+returns c = change_read _ _ _ (signed (goal.at.returns c).After-read_line) _ _ c.in_ok-change.ensures

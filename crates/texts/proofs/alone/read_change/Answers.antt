@@ -1,12 +1,11 @@
-use Rattle.texts.specs.Answers.{Orders, changes}
-use Rattle.texts.proofs.Single.{too_long, line_fault, line_fine}
+use Rattle.std.proofs.Common.{◌≡◌, sym, subst, rules}
+use Rattle.texts.specs.Answers.{Answer, Orders, changes}
+use Rattle.texts.specs.Sentences.{Lined}
+use Rattle.texts.proofs.Single.{carried, carry}
 use Rattle.texts.proofs.alone.read_change.Goals as goal
 
-pub returns-then-text-gt-LONGEST : goal.returns-then-text-gt-LONGEST
-returns-then-text-gt-LONGEST c = too_long changes _ (Orders c.args.extra.now) c.if-text-gt-LONGEST.true
-
-pub returns-in-Ok : goal.returns-in-Ok
-returns-in-Ok c = let h = c.in-Ok.ensures in line_fine changes _ (Orders _) c.if-text-gt-LONGEST.false c.in-Ok.order h.0 h.1
-
-pub returns-in-Err : goal.returns-in-Err
-returns-in-Err c = line_fault changes _ (Orders c.args.extra.now) c.if-text-gt-LONGEST.false c.in-Err.ground c.in-Err.ensures
+pub returns : goal.returns
+returns c =
+    let m : c.map_err.result ≡ carried c.changed.result = search rules in
+    let h = subst (λ s. Lined changes s (Orders c.changed.new.extra) c.changed.result) c.in_ok-r.ensures.1 c.changed.ensures in
+    subst (Answer changes c.args.text.now (Orders c.changed.new.extra)) (sym m) (carry changes _ (Orders c.changed.new.extra) c.in_ok-r.ensures.0 _ h)

@@ -1,13 +1,12 @@
+use Rattle.std.proofs.Common.{◌≡◌, sym, subst, rules}
 use Rattle.lines.specs.Lines.{questions}
-use Rattle.texts.specs.Answers.{Asks}
-use Rattle.texts.proofs.Single.{too_long, line_fault, line_fine}
+use Rattle.texts.specs.Answers.{Answer, Asks}
+use Rattle.texts.specs.Sentences.{Lined}
+use Rattle.texts.proofs.Single.{carried, carry}
 use Rattle.texts.proofs.alone.read_question.Goals as goal
 
-pub returns-then-text-gt-LONGEST : goal.returns-then-text-gt-LONGEST
-returns-then-text-gt-LONGEST c = too_long questions _ (Asks c.args.extra.now) c.if-text-gt-LONGEST.true
-
-pub returns-in-Ok : goal.returns-in-Ok
-returns-in-Ok c = let h = c.in-Ok.ensures in line_fine questions _ (Asks _) c.if-text-gt-LONGEST.false _ h.0 h.1
-
-pub returns-in-Err : goal.returns-in-Err
-returns-in-Err c = line_fault questions _ (Asks c.args.extra.now) c.if-text-gt-LONGEST.false c.in-Err.ground c.in-Err.ensures
+pub returns : goal.returns
+returns c =
+    let m : c.map_err.result ≡ carried c.asked.result = search rules in
+    let h = subst (λ s. Lined questions s (Asks c.asked.new.extra) c.asked.result) c.in_ok-r.ensures.1 c.asked.ensures in
+    subst (Answer questions c.args.text.now (Asks c.asked.new.extra)) (sym m) (carry questions _ (Asks c.asked.new.extra) c.in_ok-r.ensures.0 _ h)

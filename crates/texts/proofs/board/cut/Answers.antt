@@ -1,19 +1,20 @@
-use Rattle.std.proofs.Common.{length, refl, ap, ◌∙◌, arith, length-drop}
-use Rattle.grammar.specs.Text.{run}
+use Rattle.std.proofs.Common.{◌≡◌, ◌+◌, ◌∷◌, ◌++◌, take, sym, ap, ◌∙◌}
 use Rattle.std.proofs.lemmas.List.{take_rest}
-use Rattle.texts.specs.Board.{goes_on}
+use Rattle.grammar.specs.Text.{run}
+use Rattle.grammar.proofs.Digits.{run_is}
+use Rattle.texts.specs.Board.{goes_on, unbroken}
 use Rattle.texts.proofs.Cutting.{no_cut, cut_off}
 use Rattle.texts.proofs.board.cut.Goals as goal
+use Rattle.texts.proofs.board.cut.Goals.{After-run_length-end}
 
-pub returns-then-end-r : goal.returns-then-end-r
-returns-then-end-r c =
-    let t = c.args.r.now.text.now in
-    let p = c.args.r.now.place in
-    record { text = refl; line = c.saturating_add-r.ensures; read = no_cut t p c.line_length.result c.args.r.now.within (c.line_length.ensures.whole ∙ ap (run goes_on) (take_rest t p)) c.if-end-r.true }
+-- the line ends where the run ends that was measured
+ending : (c : After-run_length-end) → run goes_on c.rest-left.result.now ≡ c.run_length-end.result
+ending c = run_is goes_on c.rest-left.result.now c.run_length-end.result c.run_length-end.ensures.within c.run_length-end.ensures.each c.run_length-end.ensures.stops
 
-pub returns : goal.returns
-returns c =
-    let t = c.args.r.now.text.now in
-    let p = c.args.r.now.place in
-    let d = length-drop p t in
-    record { text = refl; line = c.saturating_add-r.ensures; read = cut_off t p c.line_length.result c.args.r.now.within (c.line_length.ensures.whole ∙ ap (run goes_on) (take_rest t p)) c.if-end-r.false (let w = c.line_length.ensures.within in let q = ap length (take_rest t p) in omega (arith, c.args.r.now.within)) }
+pub returns-then-end-left-clause-read : goal.returns-then-end-left-clause-read
+returns-then-end-left-clause-read c = ap unbroken (sym c.rest-left.ensures) ∙ no_cut _ _ (ending (goal.at.returns-then-end-left-clause-read c).After-run_length-end) c.if-end-left.true
+
+pub returns-clause-read : goal.returns-clause-read
+returns-clause-read c =
+    let h = cut_off _ _ (ending (goal.at.returns-clause-read c).After-run_length-end) c.if-end-left.false c.run_length-end.ensures.within in
+    record { text = sym c.rest-left.ensures ∙ h.text ∙ ap (λ x. take c.run_length-end.result c.rest-left.result.now ++ 10 ∷ x) (sym (c.new-2.ensures.rest ∙ take_rest c.rest-left.result.now (c.run_length-end.result + 1))); one = h.one }

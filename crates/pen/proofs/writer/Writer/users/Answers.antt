@@ -1,18 +1,25 @@
-use Rattle.std.proofs.Common.{map, sym, add-one}
+use Rattle.std.proofs.Common.{◌≡◌, ◌/◌, true, map, length, refl, ap, ◌∙◌, rules, arith, take_all}
+use Rattle.std.proofs.lemmas.Bool.{lt-ltb}
+use Rattle.std.proofs.lemmas.Bool.Decides.{when_true}
 use Rattle.policy.specs.Tests.{listed as named}
+use Rattle.words.specs.Words.{bits}
 use Rattle.lines.specs.Lists.{number_of}
-use Rattle.pen.proofs.Join.{entry_first, entry_yes, entry_no, join, here}
+use Rattle.pen.proofs.Naming.{none_named, one_named}
 use Rattle.pen.proofs.writer.Writer.users.Goals as goal
-use Rattle.pen.proofs.writer.Writer.users.Goals.{then-names, else-names}
 
-pub loop-k-init : goal.loop-k-init
-loop-k-init c = entry_first 117 (named (map number_of c.args.users.now)) _
+pub loop-user-init : goal.loop-user-init
+loop-user-init c = (refl, none_named 1024)
 
-pub loop-k-preserved : goal.loop-k-preserved
-loop-k-preserved c =
-    elim c.if-names.branch [
-      | then-names w ↦ here _ _ _ _ w.self-is
-          (rw add-one (entry_yes 117 (named (map number_of c.args.users.now)) _ _ _ c.loop-k.k (sym w.if-names.ensures) c.loop-k.invariant (join _ _ _ _ _ w.bytes.ensures w.number.ensures)))
-      | else-names w ↦ here _ _ _ _ w.self-is
-          (rw add-one (entry_no 117 (named (map number_of c.args.users.now)) _ _ c.loop-k.k (sym w.if-names.ensures) c.loop-k.invariant))
-    ]
+pub loop-user-preserved : goal.loop-user-preserved
+loop-user-preserved c =
+    let i = c.loop-user.invariant in
+    let n = c.number.result in
+    let fits : c.put.result ≡ true = c.put.ensures.fits ∙ lt-ltb (n / 64) (length c.loop-user.named) (omega (arith, i.0)) in
+    (c.put.auto.words ∙ i.0, one_named c.loop-user.named c.put.new.words c.args.users.now c.loop-user.user-index n (record { number = 0 }) c.loop-user-test.true c.number.ensures i.1 (when_true _ _ fits c.put.ensures.set))
+
+pub returns : goal.returns
+returns c =
+    let us = c.args.users.now in
+    c.entries.ensures (named (map number_of us)) (λ k b h p.
+    let q : b ≡ bits c.loop-user.named k = search rules in
+    q ∙ ap (λ g. g k) (c.loop-user.invariant.1 ∙ ap (λ l. named (map number_of l)) (take_all c.loop-user.user-index us (omega arith))))

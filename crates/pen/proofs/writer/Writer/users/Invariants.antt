@@ -1,10 +1,8 @@
-use Rattle.std.proofs.Common.{map}
-use Rattle.lines.specs.Entries.{entries}
+use Rattle.std.proofs.Common.{◌≡◌, map, take, length}
 use Rattle.policy.specs.Tests.{listed as named}
+use Rattle.words.specs.Words.{bits}
 use Rattle.lines.specs.Lists.{number_of}
-use Rattle.pen.specs.Ascending.{ascending}
-use Rattle.pen.specs.Puts.{Wrote}
 use Rattle.pen.proofs.writer.Writer.users.Given as goal
 
-abbrev pub invariant-loop-k : goal.invariant-loop-k
-invariant-loop-k l = Wrote l.initial.self (entries 117 (ascending (named (map number_of l.users)) l.k)) l.self
+abbrev pub invariant-loop-user : goal.invariant-loop-user
+invariant-loop-user l = (length l.named ≡ 1024) × (bits l.named ≡ named (map number_of (take l.user-index l.users)))

@@ -1,0 +1,63 @@
+use Rattle.std.proofs.Common.{sym, ap, ◌∙◌, not, arith, length-take, length-drop}
+use Rattle.pen.proofs.Join.{join, to}
+use Rattle.trees.specs.Reading.{postfix}
+use Rattle.trees.specs.declared.nodes.Node.{Node}
+use Rattle.pen.proofs.Shapes.{sides, rooted_is, signed_or, signed_and, leaf_is, none_of}
+use Rattle.pen.proofs.write.+joined_write.Goals as goal
+
+pub joined-write-requires : goal.joined-write-requires
+joined-write-requires t c = (omega (arith, c.decreases, length-take c.begin-mid.result c.args.nodes.now), tt)
+
+pub joined-write-requires-2 : goal.joined-write-requires-2
+joined-write-requires-2 t c = (omega (arith, c.decreases, length-take {A = Node}, length-drop {A = Node}), tt)
+
+pub joined-returns : goal.joined-returns
+joined-returns t c a b e =
+    let s = sides _ (postfix a) (postfix b) _ e (c.begin-mid.ensures.last (postfix a) b e) in
+    join _ _ _ _ _ (c.write.ensures a s.left) (join _ _ _ _ _ c.byte.ensures (c.write-2.ensures b s.right))
+
+pub write-returns-in_default : goal.write-returns-in_default
+write-returns-in_default t c u e = absurd (none_of _ u c.in_default.ensures.cases e)
+
+pub write-joined-requires : goal.write-joined-requires
+write-joined-requires t c = (omega (arith, c.decreases, c.in-Some.ensures.cases.1), tt)
+
+pub write-joined-requires-else-eq : goal.write-joined-requires-else-eq
+write-joined-requires-else-eq t c = (omega (arith, c.decreases, c.in-Some.ensures.cases.1), tt)
+
+pub write-joined-requires-then-eq-2 : goal.write-joined-requires-then-eq-2
+write-joined-requires-then-eq-2 t c = (omega (arith, c.decreases, c.in-Some.ensures.cases.1), tt)
+
+pub write-joined-requires-else-eq-2 : goal.write-joined-requires-else-eq-2
+write-joined-requires-else-eq-2 t c = (omega (arith, c.decreases, c.in-Some.ensures.cases.1), tt)
+
+pub write-returns-then-eq : goal.write-returns-then-eq
+write-returns-then-eq t c u e =
+    let r = rooted_is _ _ _ u c.in-Some.ensures.cases.0 e in
+    let s = signed_or u c.args.spot (sym c.in-Or.is ∙ r.1) in
+    to _ _ _ _ (s.loose (sym c.if-eq.ensures)) (c.joined.ensures s.one s.two (r.0 ∙ s.nodes))
+
+pub write-returns-else-eq : goal.write-returns-else-eq
+write-returns-else-eq t c u e =
+    let r = rooted_is _ _ _ u c.in-Some.ensures.cases.0 e in
+    let s = signed_or u c.args.spot (sym c.in-Or.is ∙ r.1) in
+    to _ _ _ _ (s.tight (sym c.if-eq.ensures))
+    (join _ _ _ _ _ c.byte.ensures (join _ _ _ _ _ (c.joined-else-eq.ensures s.one s.two (r.0 ∙ s.nodes)) c.byte-else-eq.ensures))
+
+pub write-returns-then-eq-2 : goal.write-returns-then-eq-2
+write-returns-then-eq-2 t c u e =
+    let r = rooted_is _ _ _ u c.in-Some.ensures.cases.0 e in
+    let s = signed_and u c.args.spot (sym c.in-And.is ∙ r.1) in
+    to _ _ _ _ (s.tight (ap not (sym c.if-eq-2.ensures)))
+    (join _ _ _ _ _ c.byte-then-eq-2.ensures (join _ _ _ _ _ (c.joined-then-eq-2.ensures s.one s.two (r.0 ∙ s.nodes)) c.byte-then-eq-2-2.ensures))
+
+pub write-returns-else-eq-2 : goal.write-returns-else-eq-2
+write-returns-else-eq-2 t c u e =
+    let r = rooted_is _ _ _ u c.in-Some.ensures.cases.0 e in
+    let s = signed_and u c.args.spot (sym c.in-And.is ∙ r.1) in
+    to _ _ _ _ (s.loose (ap not (sym c.if-eq-2.ensures))) (c.joined-else-eq-2.ensures s.one s.two (r.0 ∙ s.nodes))
+
+pub write-returns-in_default-node : goal.write-returns-in_default-node
+write-returns-in_default-node t c u e =
+    let r = rooted_is _ _ _ u c.in-Some.ensures.cases.0 e in
+    to _ _ _ _ (leaf_is u _ c.args.spot r.1 c.in_default-node.not-Or c.in_default-node.not-And) c.operand.ensures
