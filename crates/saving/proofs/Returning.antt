@@ -6,9 +6,8 @@ use Rattle.std.proofs.lemmas.List.{take_all}
 use Rattle.grammar.specs.declared.grounds.Ground.{Ground}
 use Rattle.grammar.specs.declared.grounds.Ground.TheVariants.{Syntax, Range, Measure, NotSemiStatic}
 use Rattle.lines.specs.Languages.{Fails}
-use Rattle.policy.specs.Rules.{Condition}
-use Rattle.policy.specs.Sets.{UserSet, as_condition}
-use Rattle.grammar.specs.Phrase.{set, Phrase, render, meaning, levels, operands, in_range, static, roles_alone, Short}
+use Rattle.policy.specs.Sets.{as_condition}
+use Rattle.grammar.specs.Phrase.{set, Phrase, meaning, levels, operands, in_range, static, roles_alone, Short}
 use Rattle.rbac.specs.Roles.{roles_of}
 use Rattle.rbac.specs.declared.sets.RoleSet.{RoleSet}
 use Rattle.bounded.specs.Entries.{entries as kept}

@@ -9,7 +9,7 @@ use tables::Tables;
 
 #[derive(Clone, Copy)]
 pub struct Valid {
-    tables: Tables,
+    pub tables: Tables,
     ghost sound: { (Sound tables → ⊥) → ⊥ },
 }
 

@@ -8,7 +8,9 @@ use Rattle.policy.specs.Reach.{revocable}
 use Rattle.policy.proofs.Tests.{as_test}
 use Rattle.rbac.specs.Roles.{roles_of}
 use Rattle.tables.specs.declared.entries.RevokeEntry.{RevokeEntry}
-use Rattle.tables.specs.View.{revoke_of}
+use Rattle.bounded.specs.Entries.{entries}
+use Rattle.tables.specs.declared.tables.Tables.{Tables}
+use Rattle.tables.specs.View.{policy_of, revoke_of}
 
 abbrev pub has_target : ℕ → RevokeEntry → Bool
 has_target r x = roles_of x.targets r
@@ -39,3 +41,8 @@ none_from i (x ∷ xs) r e = go (has_target r x) e (none_from (i + 1) xs r)
 -- none was
 pub unruled : (xs : List RevokeEntry) (r : ℕ) → position (has_target r) xs ≡ None → revocable (map revoke_of xs) r ≡ false
 unruled xs r e = none_from 0 xs r (sym (position_from-zero (has_target r) xs) ∙ e)
+
+-- the policy's revoke rules are the entries of the tables
+pub revokes_are : (t : Tables) → (policy_of t).revokes ≡ map revoke_of (entries t.revokes)
+unfolding policy_of
+revokes_are t = refl

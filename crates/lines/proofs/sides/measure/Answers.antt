@@ -2,17 +2,8 @@ use Rattle.std.proofs.Common.{sym, subst}
 use Rattle.grammar.specs.Text.{rest}
 use Rattle.lines.specs.Readings.{Measures}
 use Rattle.lines.proofs.Entering.{nil_is, nil_no}
-use Rattle.lines.proofs.Siding.{no_blank, no_left, no_between, no_right, no_end, all_measured}
+use Rattle.lines.proofs.Siding.{no_right, no_end, all_measured}
 use Rattle.lines.proofs.sides.measure.Goals as goal
-
-pub returns-then-not-take : goal.returns-then-not-take
-returns-then-not-take c = no_blank _ c.if-not-take.ensures.read.0
-
-pub returns-in_err-left : goal.returns-in_err-left
-returns-in_err-left c = subst (Measures (rest c.args.r.now)) (sym c.from_residual.ensures) (no_left _ _ c.if-not-take.ensures.read _ c.in_err-left.ensures)
-
-pub returns-then-not-takes : goal.returns-then-not-takes
-returns-then-not-takes c = no_between _ _ c.if-not-take.ensures.read _ _ c.in_ok-left.ensures _ c.if-not-takes.ensures.read
 
 pub returns-in_err-right : goal.returns-in_err-right
 returns-in_err-right c = subst (Measures (rest c.args.r.now)) (sym c.from_residual-in_err-right.ensures) (no_right _ _ c.if-not-take.ensures.read _ _ c.in_ok-left.ensures _ c.if-not-takes.ensures.read _ c.in_err-right.ensures)

@@ -1,14 +1,8 @@
 use Rattle.std.proofs.Common.{◌≡◌, Err, sym, ◌∙◌, subst, rules}
 use Rattle.grammar.specs.Text.{rest}
-use Rattle.grammar.specs.declared.grounds.Ground.TheVariants.{Syntax}
 use Rattle.lines.specs.Readings.{Measures, Builds, TwoSides}
-use Rattle.lines.proofs.Siding.{two_syntax, two_verdict, two_told}
+use Rattle.lines.proofs.Siding.{two_verdict, two_told}
 use Rattle.lines.proofs.sides.sides.Goals as goal
-
-pub returns-in_err-sizes : goal.returns-in_err-sizes
-returns-in_err-sizes c =
-    let q : c.from_residual.result ≡ Err Syntax = search rules in
-    subst (λ a. TwoSides (rest c.args.r.now) a c.args.extra.now) (sym q) (two_syntax _ (subst (Measures (rest c.args.r.now)) c.in_err-sizes.ensures.ok_part c.measure.ensures))
 
 pub returns-in_err-weigh : goal.returns-in_err-weigh
 returns-in_err-weigh c =

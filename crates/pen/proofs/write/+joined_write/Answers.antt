@@ -1,15 +1,8 @@
-use Rattle.std.proofs.Common.{sym, ap, ◌∙◌, not, arith, length-take, length-drop}
+use Rattle.std.proofs.Common.{sym, ap, ◌∙◌, not}
 use Rattle.pen.proofs.Join.{join, to}
 use Rattle.trees.specs.Reading.{postfix}
-use Rattle.trees.specs.declared.nodes.Node.{Node}
 use Rattle.pen.proofs.Shapes.{sides, rooted_is, signed_or, signed_and, leaf_is, none_of}
 use Rattle.pen.proofs.write.+joined_write.Goals as goal
-
-pub joined-write-requires : goal.joined-write-requires
-joined-write-requires t c = (omega (arith, c.decreases, length-take c.begin-mid.result c.args.nodes.now), tt)
-
-pub joined-write-requires-2 : goal.joined-write-requires-2
-joined-write-requires-2 t c = (omega (arith, c.decreases, length-take {A = Node}, length-drop {A = Node}), tt)
 
 pub joined-returns : goal.joined-returns
 joined-returns t c a b e =
@@ -18,18 +11,6 @@ joined-returns t c a b e =
 
 pub write-returns-in_default : goal.write-returns-in_default
 write-returns-in_default t c u e = absurd (none_of _ u c.in_default.ensures.cases e)
-
-pub write-joined-requires : goal.write-joined-requires
-write-joined-requires t c = (omega (arith, c.decreases, c.in-Some.ensures.cases.1), tt)
-
-pub write-joined-requires-else-eq : goal.write-joined-requires-else-eq
-write-joined-requires-else-eq t c = (omega (arith, c.decreases, c.in-Some.ensures.cases.1), tt)
-
-pub write-joined-requires-then-eq-2 : goal.write-joined-requires-then-eq-2
-write-joined-requires-then-eq-2 t c = (omega (arith, c.decreases, c.in-Some.ensures.cases.1), tt)
-
-pub write-joined-requires-else-eq-2 : goal.write-joined-requires-else-eq-2
-write-joined-requires-else-eq-2 t c = (omega (arith, c.decreases, c.in-Some.ensures.cases.1), tt)
 
 pub write-returns-then-eq : goal.write-returns-then-eq
 write-returns-then-eq t c u e =

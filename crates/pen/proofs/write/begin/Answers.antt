@@ -1,6 +1,6 @@
 use Rattle.std.proofs.Common.{◌≡◌, [], ◌∷◌, length, refl, ap, ◌∙◌, arith, rules, inl, inr}
 use Rattle.std.proofs.lemmas.List.{length_push}
-use Rattle.pen.proofs.Shapes.{Read, step, at_end, not_empty}
+use Rattle.pen.proofs.Shapes.{Read, step, at_end}
 use Rattle.pen.proofs.write.begin.Goals as goal
 use Rattle.pen.proofs.write.begin.Goals.{in_default, in-Or}
 
@@ -8,12 +8,6 @@ pub loop-i-init : goal.loop-i-init
 loop-i-init c =
     let r : c.into_iter-i-iterator.result.iter.iter.rest.now ≡ c.args.nodes.now = search rules in
     (search rules, omega arith, omega (arith, ap length r), λ front t e. (t ∷ [], refl, r ∙ e))
-
-pub overflow_add-need : goal.overflow_add-need
-overflow_add-need c =
-    let (_, (s, _, _)) = c.in-Some.ensures.steps in
-    let n = length_push c.next.new.self.iter.iter.rest.now c.in-Some.node.now in
-    omega (arith, c.loop-i.invariant, ap length s, c.iter.ensures.bound)
 
 pub returns-then-need-eq0 : goal.returns-then-need-eq0
 returns-then-need-eq0 c =
@@ -40,6 +34,3 @@ loop-i-preserved c =
       | in-Or w ↦ inl (w.in-Or.is, w.need-is)
     ] in
     (z ∙ c.loop-i.invariant.0, omega arith, omega (arith, r, ap length s), λ front t e. step _ _ front _ _ _ s c.loop-i.invariant.1 r (c.loop-i.invariant.3 front t e))
-
-pub returns : goal.returns
-returns c = record { within = omega arith; last = λ front t e. absurd (not_empty _ front _ c.loop-i.invariant.1 c.in-None.ensures.steps.1.0 (c.loop-i.invariant.3 front t e)) }

@@ -8,6 +8,3 @@ pub returns-in-Some : goal.returns-in-Some
 returns-in-Some c h =
     let (t, l) = h c.in-Some.nodes c.in-Some.is in
     to _ _ _ _ (text_is c.in-Some.nodes t l ∙ sym (ap condition_text c.in-Some.is)) (c.write.ensures t (c.entries.ensures.all ∙ l))
-
-pub returns-in-None : goal.returns-in-None
-returns-in-None c h = to _ _ _ _ (sym (ap condition_text c.in-None.is)) c.bytes.ensures

@@ -1,10 +1,7 @@
-use Rattle.std.proofs.Common.{Some, refl, ap, ◌∙◌, arith}
+use Rattle.std.proofs.Common.{Some, ap, ◌∙◌, arith}
 use Rattle.saving.specs.Canonical.{canonical}
 use Rattle.pen.proofs.Join.{whole}
 use Rattle.saving.proofs.line.write_line.Goals as goal
-
-pub returns-then-place-size : goal.returns-then-place-size
-returns-then-place-size c t = record { short = λ h. (refl, refl); fits = λ h. let s = c.line_size-size.ensures t in absurd (omega arith) }
 
 pub returns : goal.returns
 returns c t =

@@ -1,11 +1,10 @@
 use Rattle.std.proofs.Common.{◌+◌, map, Some, None, ap, ◌∙◌, sym, subst}
 use mathlib.Core.Path.{subst⁻¹}
 use Rattle.tables.specs.View.{policy_of, revoke_of}
-use Rattle.tables.proofs.Viewing.{revokes_are}
 use Rattle.tables.specs.declared.entries.RevokeEntry.{RevokeEntry}
 use Rattle.verdicts.specs.declared.revoker.Revoker.{Revoker}
 use Rattle.verdicts.specs.Revoking.{RevokedBy}
-use Rattle.verdicts.proofs.Ruling.{ruled, unruled}
+use Rattle.verdicts.proofs.Ruling.{ruled, unruled, revokes_are}
 use Rattle.verdicts.proofs.revoking.revoker.Goals as goal
 
 pub returns-in_err-at : goal.returns-in_err-at
