@@ -21,7 +21,7 @@ const MOST: usize = 65537;
 // No line that is not refused is as long in canonical form.
 const LONGEST_LINE: usize = 2048;
 
-// Fills the place from the reader, as far as it gives: how many bytes.
+// Fills the place from the reader, as far as it gives: how many bytes. The memory is fixed, and reading to the end would ask for a list that grows.
 fn fill<R: Read>(from: &mut R, place: &mut [u8]) -> io::Result<usize>
     ensures { IfOk result (λ n. n ≤ length place.old) }
 {
@@ -54,6 +54,7 @@ fn examine(text: &[u8], extra: &mut Extra) -> Result<(), Refusal> {
     check(text, extra)?;
     let mut reader = Reader::new(text, 1);
     begin(&mut reader)?;
+    // The number of a line is asked of the reader before the line is read, so no iterator hands out the lines.
     'lines: loop {
         let line = reader.line();
         match next(&mut reader, extra)? {

@@ -189,6 +189,7 @@ pub fn scan(r: &mut Reader) -> Option<Size>
         depth: 0,
         size,
     };
+    // The steps end where one of them says so, so there is nothing to iterate over.
     loop {
         match step(r, at)? {
             Some(next) => at = next,

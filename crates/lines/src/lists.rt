@@ -49,6 +49,7 @@ pub fn roles(r: &mut Reader) -> Option<Option<Names>>
         roles: RoleSet::empty(),
         twice: false,
     });
+    // What is read says where the list ends, so there is nothing to iterate over.
     'entries: loop {
         let number = entry(r, b'r')?;
         names = names.and_then(|names| names.with(number));
@@ -120,6 +121,7 @@ pub fn users(r: &mut Reader, extra: &mut Extra) -> Result<(), Ground>
     extra.trusted = Bounded::new(User::from(0));
     extra.many = 0;
     extra.twice = false;
+    // What is read says where the list ends, so there is nothing to iterate over.
     'entries: loop {
         let number = entry(r, b'u').ok_or(Ground::Syntax)?;
         fits = fits.and(note(&mut seen, extra, number));

@@ -25,6 +25,7 @@ impl Writer<'_> {
     pub fn byte(&mut self, b: u8)
         ensures { Wrote self.old (b ∷ []) self.new }
     {
+        // Not by get_mut: what is written through it is tied to the place by a name of the check's own alone.
         if self.len < self.place.len() {
             self.place[self.len] = b;
         }
@@ -51,6 +52,7 @@ impl Writer<'_> {
         requires { F.IsAlwaysCallable passes }
         ensures { (f : ℕ → Bool) → ((k : ℕ) (b : Bool) → k < limit → F.post passes k b → b ≡ f k) → Wrote self.old (entries letter (ascending f limit)) self.new }
     {
+        // The number itself is what is written; it is no place in a list.
         for k in 0..limit {
             if passes(k) {
                 self.byte(b' ');

@@ -88,6 +88,7 @@ fn hire(tables: &Tables, slots: &[Slot]) -> User
     ensures free { (policy_of tables.now).trusted result.number ≡ false }
     ensures inside { result.number < users }
 {
+    // The numbers themselves are tried; none of them is a place in a list.
     for number in 0..CANDIDATES {
         let user = User::from(number);
         if !(has_slot(slots, user) | is_trusted(tables, user)) {

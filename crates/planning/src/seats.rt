@@ -34,7 +34,7 @@ pub(crate) fn is_trusted(tables: &Tables, user: User) -> bool
     is_named(tables.trusted.entries(), user.number())
 }
 
-// Gives the user a slot, unless the user has one.
+// Gives the user a slot, unless the user has one. Here and in the plan the tables are lent beside the slots: a struct of both, lent for change, would owe at each call that the tables stay as they are.
 pub(crate) fn seat(
     tables: &Tables,
     slots: &mut Bounded<Slot, TRACKED_USERS>,

@@ -49,6 +49,7 @@ impl<'a> Builder<'a> {
         ensures { Builds users_at self.old result self.new }
     {
         self.user()?;
+        // What is read says where the users end, so there is nothing to iterate over.
         'users: while self.reader.take(b',') {
             self.user()?;
             push(&mut self.nodes, Node::Or)?;
@@ -78,6 +79,7 @@ impl<'a> Builder<'a> {
         ensures { Builds (set_at levels) self.old result self.new }
     {
         self.term(levels)?;
+        // What is read says where the terms end.
         'terms: loop {
             match self.reader.sign() {
                 Some('|') => {
@@ -95,6 +97,7 @@ impl<'a> Builder<'a> {
         ensures { Builds (term_at levels) self.old result self.new }
     {
         self.factor(levels)?;
+        // What is read says where the factors end.
         'factors: loop {
             match self.reader.sign() {
                 Some('&') => {

@@ -15,7 +15,7 @@ use crate::case::{Case, slot_of};
 use deciding::RunStep;
 use rbac::{Role, RoleSet};
 
-// The roles with one more, or with one less.
+// The roles with one more, or with one less. A closure in its place would be no plainer: what a run says is told by whether it adds.
 fn turn(roles: RoleSet, role: Role, adds: bool) -> RoleSet
     ensures { roles_of result ≡ turned adds (roles_of roles) role.number }
 {

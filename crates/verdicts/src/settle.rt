@@ -53,7 +53,7 @@ fn blank() -> RunStep {
 }
 
 impl Case<'_> {
-    // Decides the question with tables that are long enough.
+    // Decides the question with tables that are long enough. The lengths are an answer of `decide` and are tested there alone; a type that holds them would wrap the slices once for each part, and the parts would say no less.
     fn decide_in(&self, list: &mut [RunStep], work: &mut [u64]) -> Verdict
         requires ready { ReadyCase self.now }
         requires whole { AllWhole (entries self.now.tables.now.assigns) }

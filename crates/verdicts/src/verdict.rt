@@ -1,6 +1,6 @@
 // What a question is answered with.
 
-// A run that shows the answer: whether its steps add or remove, and how many there are.
+// A run that shows the answer: whether its steps add or remove, and how many there are. Every run has both, so neither is a flag for the other.
 #[derive(Clone, Copy, PartialEq, Eq, Debug)]
 pub struct Shown {
     pub adds: bool,

@@ -18,7 +18,7 @@ pub fn has(words: &[u64], k: usize) -> bool
     word(words, k / 64) >> (k % 64) & 1 == 1
 }
 
-// Puts k into the set; false, and nothing changed, where the row has no place for it.
+// Puts k into the set; false, and nothing changed, where the row has no place for it. It answers yes or no as the insert of a set does: no value and no second ground stands beside it.
 pub fn put(words: &mut [u64], k: usize) -> bool
     ensures fits { result ≡ nat_lt (k / 64) (length words.old) }
     ensures set { MatchBool result (bits words.new ≡ with (bits words.old) k) (words.new ≡ words.old) }
