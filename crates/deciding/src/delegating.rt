@@ -1,5 +1,5 @@
 // The steps of delegation.
-ghost use Rattle.std.specs.Prelude.{◌≡◌, ℕ, suc, ◌*◌, ◌/◌, ◌%◌, ◌<◌, ◌≤◌, true, false, length, slice_index_or};
+ghost use Rattle.std.specs.Prelude.{◌≡◌, suc, ◌*◌, ◌/◌, ◌%◌, ◌<◌, ◌≤◌, false, length, slice_index_or};
 ghost use Rattle.words.specs.Words.{bits};
 ghost use Rattle.steps.specs.Steps.{Leap};
 ghost use Rattle.policy.specs.Measures.{assign_rules, list_places};

@@ -1,5 +1,4 @@
 // A second step system beside seniority: the stages of a build pipeline, each open once the one before it is done.
-ghost use Rattle.std.specs.Prelude.{◌≡◌};
 ghost use Rattle.foundation_checks.specs.Stages.{pipeline, pipeline_lawful};
 
 use steps::StepSystem;

@@ -1,5 +1,5 @@
 // What a reader takes from its text: tokens, numbers, signs and words.
-ghost use Rattle.std.specs.Prelude.{◌≡◌, ℕ, ◌≤◌, Bool, true, false, [], ◌∷◌, length, ◌<◌, slice_index};
+ghost use Rattle.std.specs.Prelude.{◌≡◌, ℕ, ◌≤◌, true, false, [], ◌∷◌, length, ◌<◌, slice_index};
 ghost use Rattle.grammar.specs.Text.{rest, ahead, behind, begins, is_digit, is_letter, run, number as number_of, taken, Reads, Takes};
 
 use crate::reader::Reader;

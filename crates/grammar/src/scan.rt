@@ -1,4 +1,4 @@
-ghost use Rattle.std.specs.Prelude.{◌≡◌, ◌+◌, ◌^◌, ◌<◌, ◌≤◌, length};
+ghost use Rattle.std.specs.Prelude.{◌≡◌, ◌+◌, ◌^◌, ◌<◌, ◌≤◌};
 ghost use Rattle.grammar.specs.Text.{rest, number as number_of};
 ghost use Rattle.grammar.specs.Scan.{leaf_by, step_at, user_step, step as step_of, told, Room, Scanned};
 ghost use Rattle.grammar.specs.declared.sizes.Mode.TheVariants.{Operand, Sign, Comma};

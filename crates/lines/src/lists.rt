@@ -41,7 +41,8 @@ impl Names {
 }
 
 // The roles of a list that goes on to the end of the text, and of these none where one is out of range. Such a role
-// doesn't end the list: a fault in how the rest is written is refused first, so that all of it is read.
+// doesn't end the list: a fault in how the rest is written is refused first, so that all of it is read. An Option in an
+// Option: whether it is a list, and whether its roles are in range; a row and an assign rule rank the two apart.
 pub fn roles(r: &mut Reader) -> Option<Option<Names>>
     ensures read { Listed 114 Noted (rest r.old) result }
 {
@@ -104,7 +105,7 @@ fn note(seen: &mut [u64], extra: &mut Extra, number: u32) -> Result<(), Ground>
     let user = user(number).ok_or(Ground::Range)?;
     let k = number as usize;
     let again = has(seen, k);
-    put(seen, k);
+    let _ = put(seen, k);
     extra.twice = extra.twice | again;
     extra.add(user);
     Ok(())

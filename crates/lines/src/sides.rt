@@ -31,7 +31,7 @@ fn measure(r: &mut Reader) -> Option<Sizes>
     Some(Sizes { left, right })
 }
 
-// Builds the two sets, which were measured and found small.
+// Builds the two sets, which were measured and found small; so nothing stops it, and no ground is told.
 fn build(r: &mut Reader, extra: &mut Extra) -> Option<()>
     ensures { Builds (rest r.old) result extra.new }
 {

@@ -1,5 +1,5 @@
 // Bytes, numbers, and lists in ascending order.
-ghost use Rattle.std.specs.Prelude.{◌≡◌, ℕ, ◌<◌, Bool, List, [], ◌∷◌, map, decimal};
+ghost use Rattle.std.specs.Prelude.{◌≡◌, ℕ, ◌<◌, Bool, [], ◌∷◌, map, decimal};
 ghost use Rattle.rbac.specs.Roles.{roles_of};
 ghost use Rattle.lines.specs.Entries.{entries};
 ghost use Rattle.policy.specs.Tests.{listed as named};
@@ -25,7 +25,7 @@ impl Writer<'_> {
     pub fn byte(&mut self, b: u8)
         ensures { Wrote self.old (b ∷ []) self.new }
     {
-        // Not by get_mut: what is written through it is tied to the place by a name of the check's own alone.
+        // By get_mut the proof did not close: what is written through it is tied to the place by a name of the check's own.
         if self.len < self.place.len() {
             self.place[self.len] = b;
         }
@@ -75,7 +75,7 @@ impl Writer<'_> {
     {
         let mut named = [0u64; 1024];
         for user in users {
-            put(&mut named, user.number() as usize);
+            let _ = put(&mut named, user.number() as usize);
         }
         self.entries(b'u', USERS as u32, |k| has(&named, k as usize));
     }

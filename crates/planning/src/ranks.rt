@@ -1,4 +1,4 @@
-// The masks of seniors and givers.
+// The masks of seniors and givers. Each table is filled by a call of its own; one function that fills any table would be given that call as a closure, and its contract would say no less.
 ghost use Rattle.std.specs.Prelude.{◌≡◌, ℕ, ◌<◌, T, length, Decides, slice_index_or};
 ghost use Rattle.policy.specs.Measures.{roles, permissions};
 ghost use Rattle.policy.specs.Membership.{Senior};

@@ -1,5 +1,5 @@
 // Users get slots, each of them one.
-ghost use Rattle.std.specs.Prelude.{◌≡◌, ℕ, ◌+◌, ◌<◌, ◌≤◌, false, length, ◌==◌};
+ghost use Rattle.std.specs.Prelude.{◌≡◌, ◌<◌, false, length, ◌==◌};
 ghost use Rattle.std.specs.List.{list_any};
 ghost use Rattle.policy.specs.Measures.{users, tracked_users};
 ghost use Rattle.rbac.specs.Roles.{roles_of};

@@ -2,7 +2,7 @@
 ghost use Rattle.std.specs.Prelude.{◌≡◌, ◌≤◌, MatchOption};
 ghost use Rattle.policy.specs.Measures.{users};
 
-// A user, 0 to 65,535.
+// A user, 0 to 65,535. No ghost field says so, as one does of a role: the definitions build a user where there is no slot, and none can be built of a type that has such a field.
 #[derive(Clone, Copy, PartialEq, Eq, Debug)]
 pub struct User {
     number: u16,

@@ -34,7 +34,7 @@ fn entry(rt: &HostRuntime, chart: &Hierarchy, post: Post) -> io::Result<()> {
 fn print_roles(rt: &HostRuntime, post: Post, descent: Descent) -> io::Result<()> {
     let number = Role::from(post).number();
     print!(rt; "r{number} {post} is senior to")?;
-    for role in (0..64u32).filter_map(Role::new) {
+    for role in (0..ROLES as u32).filter_map(Role::new) {
         if descent.reached.contains(role) {
             let junior = role.number();
             print!(rt; " r{junior}")?;

@@ -1,6 +1,6 @@
 // Lines in their canonical form, into a lent place. The writer and what lies beside a change are two parameters: a struct
 // of both would lend again what is lent to `line`, and each promise would name the text through two references.
-ghost use Rattle.std.specs.Prelude.{◌≡◌, ◌<◌, ◌≤◌, min, List, ◌++◌, length, Some, None};
+ghost use Rattle.std.specs.Prelude.{◌≡◌, ◌<◌, ◌≤◌, min, length, Some, None};
 ghost use Rattle.pen.specs.Puts.{Wrote, puts, top};
 ghost use Rattle.lines.specs.Lines.{Sentence, Means, Fine};
 ghost use Rattle.saving.specs.RoundTrip.{Fits, value_of, ReadBack, RoundTrip};
@@ -13,7 +13,7 @@ use pen::{Spot, Writer};
 use rbac::RoleSet;
 use texts::line::read_line;
 
-// A word with its letter, a number, what stands between, and roles.
+// A word with its letter, a number, what stands between, and roles. Words are written with the signs that follow them, so they are not the reader's table.
 fn row(w: &mut Writer, word: &[u8], number: u64, between: &[u8], roles: RoleSet)
     ensures { Wrote w.old (role_row word.now number between.now roles) w.new }
 {

@@ -27,7 +27,7 @@ fn apart_in(rows: &[Row], seen: &mut [u64]) -> bool
             if has(seen, bit) {
                 return false;
             }
-            put(seen, bit);
+            let _ = put(seen, bit);
         }
     }
     true

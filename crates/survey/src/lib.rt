@@ -1,7 +1,7 @@
 // Whole board texts: the regime, or the first fault.
 #![tactic(auto)]
 
-ghost use Rattle.std.specs.Prelude.{◌≡◌, Decides};
+ghost use Rattle.std.specs.Prelude.{Decides};
 ghost use Rattle.policy.specs.Sets.{SemiStatic};
 ghost use Rattle.lines.specs.Bodies.{Sides, sides};
 ghost use Rattle.survey.specs.Whole.{WholeText};

@@ -2,14 +2,14 @@
 use rbac::{Role, RoleSet, User};
 use trees::Nodes;
 
-// A user and the roles assigned to that user. The row is free while it holds no role: rows are plain, and a row with no role says nothing.
+// A user and the roles assigned to that user. The row is free while it holds no role. It is no Option: a row in use without a role would be a second kind of free row.
 #[derive(Clone, Copy, PartialEq, Eq, Debug)]
 pub struct Row {
     pub user: User,
     pub roles: RoleSet,
 }
 
-// What an assign rule asks of the user who is to get a role: nothing, or a set of roles. Not an Option: None would not say whether everybody or nobody is meant.
+// What an assign rule asks of the user who is to get a role: nothing, or a set of roles. Not an Option, as where a text says it and None is a condition without a tree: a board names what it asks, and None would not say whether everybody or nobody meets it.
 #[derive(Clone, Copy)]
 pub enum Needs {
     Everybody,

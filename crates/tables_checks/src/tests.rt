@@ -4,7 +4,7 @@ use policy::Regime;
 use rbac::{Permission, Role, RoleSet, User};
 use soundness::{
     Valid, admins_are_assigned, admins_are_no_targets, assignable_is_revocable, conditions_whole,
-    held, is_sound, regime_kept, revocable, rows_apart,
+    held, is_sound, regime_kept, rows_apart,
 };
 use std::test::Fail;
 use tables::{AssignEntry, Bounded, Full, Needs, RevokeEntry, Row, RowsFull, Tables};

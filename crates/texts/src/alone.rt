@@ -1,5 +1,5 @@
 // Questions and officers' changes: a text of their own, of one line.
-ghost use Rattle.std.specs.Prelude.{◌≡◌, ◌<◌, ◌≤◌, List, length, MatchResult};
+ghost use Rattle.std.specs.Prelude.{◌≡◌, ◌<◌, ◌≤◌, length, MatchResult};
 ghost use Rattle.grammar.specs.Text.{rest};
 ghost use Rattle.lines.specs.Lines.{questions};
 ghost use Rattle.texts.specs.Answers.{Answer, Asks, Orders, changes, longest};

@@ -27,7 +27,7 @@ pub struct Order {
 }
 
 impl Fault {
-    // The number of the refusal.
+    // The number of the refusal, as the format has it.
     pub fn number(self) -> u8
         ensures { result ≡ (told self).number }
     {
@@ -43,7 +43,7 @@ impl Fault {
         }
     }
 
-    // The line that the refusal names.
+    // The line that the refusal names; 0 stands for the text as a whole, as the format has it.
     pub fn line(self) -> usize
         ensures { result ≡ (told self).line }
     {

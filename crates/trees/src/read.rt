@@ -73,7 +73,7 @@ impl<'a> Builder<'a> {
     }
 
     // Reads a set with at most so many levels of parentheses, and adds its nodes.
-    // The readers of a set and of its terms are alike; each stands by itself, since the three readers call each other.
+    // The readers of a set and of its terms are alike. One for both would be given its sign, its node, and the reader below it, which calls back into it: no plainer than the two.
     #[cycle(factor_set_term)]
     fn set(&mut self, levels: u8) -> Result<(), Ground>
         ensures { Builds (set_at levels) self.old result self.new }

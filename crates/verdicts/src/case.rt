@@ -12,7 +12,8 @@ use tables::Tables;
 use words::word;
 
 // What every part of the deciding is lent. That the plan is made for this question of these tables is no proposition to the checker,
-// since it names the slot of the hire; so it cannot be a fact of the type, and the parts that need it ask for it.
+// since it names the slot of the hire, which no double negation gives back;
+// so it cannot be a fact of the type, and the parts that need it ask for it.
 #[derive(Clone, Copy)]
 pub(crate) struct Case<'a> {
     pub tables: &'a Tables,

@@ -1,7 +1,6 @@
 // A run that takes all that can be taken.
-ghost use Rattle.std.specs.Prelude.{ℕ, ◌+◌, ◌*◌, ◌<◌, ◌≤◌, length};
+ghost use Rattle.std.specs.Prelude.{◌+◌, ◌*◌, ◌<◌, ◌≤◌, length};
 ghost use Rattle.policy.specs.Measures.{roles, list_places};
-ghost use Rattle.questions.specs.Inquired.{inquired};
 ghost use Rattle.deciding.specs.Slots.{slots_of};
 ghost use Rattle.tables.specs.View.{policy_of, state_of};
 ghost use Rattle.verdicts.specs.Ready.{ReadyCase};
@@ -34,7 +33,7 @@ impl Case<'_> {
         })
     }
 
-    // Lists the steps that take all that can be taken, and returns their number. A fact is a slot and a role, so the facts are a plain range.
+    // Lists the steps that take all that can be taken, and returns their number. A fact is a slot and a role, so the facts are a plain range; the list is lent, so a step is put at the first place that has none.
     pub(crate) fn strip(&self, list: &mut [RunStep]) -> usize
         requires ready { ReadyCase self.now }
         requires room { list_places ≤ length list.old }

@@ -28,7 +28,7 @@ pub(crate) fn revoker(tables: &Tables, role: Role) -> Option<Revoker>
     })
 }
 
-// The first slot whose user the role is assigned to.
+// The first slot whose user the role is assigned to. It and `slot_of` are one search of the library each, with another test; a function over the test would say no less.
 pub(crate) fn holder(slots: &[Slot], role: Role) -> usize
     requires { (i : ℕ) × (i < length slots.now) × T (roles_of (slot_at slots.now i).roles role.number) }
     ensures below { result < length slots.now }

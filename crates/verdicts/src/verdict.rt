@@ -1,6 +1,6 @@
 // What a question is answered with.
 
-// A run that shows the answer: whether its steps add or remove, and how many there are. Every run has both, so neither is a flag for the other.
+// A run that shows the answer: whether its steps add or remove, and how many there are. Every run has both, so neither is a flag for the other; and `adds` is yes or no, as in the definitions (`changes adds`).
 #[derive(Clone, Copy, PartialEq, Eq, Debug)]
 pub struct Shown {
     pub adds: bool,

@@ -1,6 +1,5 @@
-use Rattle.std.proofs.Common.{◌≡◌, ◌/◌, true, false, length, Err, refl, ◌∙◌, rules, arith}
-use Rattle.std.proofs.lemmas.Bool.{lt-ltb}
-use Rattle.std.proofs.lemmas.Bool.Decides.{when_true}
+use Rattle.std.proofs.Common.{◌≡◌, ◌/◌, ◌<◌, true, false, length, Err, refl, rules, arith}
+use Rattle.words.proofs.Rows.{put_there}
 use Rattle.grammar.specs.declared.grounds.Ground.TheVariants.{Range}
 use Rattle.lines.proofs.Trusting.{see_none, see_more}
 use Rattle.lines.proofs.lists.note.Goals as goal
@@ -15,9 +14,9 @@ pub returns : goal.returns
 returns c good ms l h =
     let n = rw c.in_ok-user.ensures.ok_part at c.user.ensures in
     let wide : length c.args.seen.now ≡ 1024 = h.wide in
-    let fits : c.put.result ≡ true = c.put.ensures.fits ∙ lt-ltb (c.args.number / 64) (length c.args.seen.now) (omega arith) in (
+    let inside : c.args.number / 64 < length c.args.seen.now = omega arith in (
       true,
       refl,
       see_more c.args.seen.now c.put.new.words c.args.extra.now c.add.new.self good c.has-again.result ms c.args.number c.in_ok-user.user h n.1 l n.0
-          c.has-again.ensures (when_true _ _ fits c.put.ensures.set) c.put.auto.words c.add.ensures.trusted c.add.ensures.many c.add.ensures.twice,
+          c.has-again.ensures (put_there _ _ c.put.result inside c.put.ensures) c.put.auto.words c.add.ensures.trusted c.add.ensures.many c.add.ensures.twice,
     )

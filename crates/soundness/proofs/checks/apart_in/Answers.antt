@@ -1,16 +1,13 @@
-use Rattle.std.proofs.Common.{◌≡◌, ◌+◌, ◌*◌, ◌/◌, ◌<◌, Bool, true, false, length, MatchBool, sym, refl, ap, ◌∙◌, arith, lt-ltb}
+use Rattle.std.proofs.Common.{◌≡◌, ◌+◌, ◌*◌, ◌/◌, ◌<◌, length, sym, refl, ap, ◌∙◌, arith}
 use mathlib.Core.Bool.{false≢true}
 use mathlib.Core.Path.{subst⁻¹}
 use Rattle.words.specs.Words.{bits, with}
+use Rattle.words.proofs.Rows.{put_there}
 use Rattle.rbac.specs.declared.users.User.{User}
 use Rattle.policy.specs.Measures.{users}
 use Rattle.soundness.proofs.Marking.{Marked, none_marked, row_free, row_marked, marked_twice, all_marked}
 use Rattle.soundness.proofs.checks.apart_in.Goals as goal
 use Rattle.soundness.proofs.checks.apart_in.Goals.{in-Some+else-has, in_default}
-
-put_when : (b : Bool) (P Q : Type 0) → b ≡ true → MatchBool b P Q → P
-put_when true P Q e h = h
-put_when false P Q e h = absurd (false≢true e)
 
 pub loop-row-init : goal.loop-row-init
 loop-row-init c = (none_marked c.args.rows.now (bits c.args.seen.now) c.requires.clear, c.requires.long)
@@ -24,8 +21,8 @@ loop-row-preserved c =
           let n = w.number-bit.result in
           let small : n < users = w.number-bit.type_inv in
           let long : length c.loop-row.seen * 64 ≡ users = c.loop-row.invariant.1 in
-          let fits : w.put.result ≡ true = w.put.ensures.fits ∙ lt-ltb (n / 64) (length c.loop-row.seen) (omega arith) in
-          let is : bits w.put.new.words ≡ with (bits c.loop-row.seen) n = put_when w.put.result (bits w.put.new.words ≡ with (bits c.loop-row.seen) n) _ fits w.put.ensures.set in (
+          let inside : n / 64 < length c.loop-row.seen = omega arith in
+          let is : bits w.put.new.words ≡ with (bits c.loop-row.seen) n = put_there _ _ w.put.result inside w.put.ensures in (
             subst⁻¹ (Marked rows (i + 1)) (ap bits w.seen-is ∙ is)
                 (row_marked rows i (bits c.loop-row.seen) c.loop-row.invariant.0 n w.in-Some.ensures.0 (w.number-bit.ensures ∙ ap (λ (u : User). u.number) w.in-Some.ensures.1) (sym w.has.ensures ∙ w.if-has.false)),
             ap (λ m. m * 64) c.match-holder.auto.seen ∙ long,

@@ -1,8 +1,7 @@
-use Rattle.std.proofs.Common.{◌≡◌, ◌/◌, true, map, length, refl, ap, ◌∙◌, rules, arith, take_all}
-use Rattle.std.proofs.lemmas.Bool.{lt-ltb}
-use Rattle.std.proofs.lemmas.Bool.Decides.{when_true}
+use Rattle.std.proofs.Common.{◌≡◌, ◌/◌, ◌<◌, map, length, refl, ap, ◌∙◌, rules, arith, take_all}
 use Rattle.policy.specs.Tests.{listed as named}
 use Rattle.words.specs.Words.{bits}
+use Rattle.words.proofs.Rows.{put_there}
 use Rattle.lines.specs.Lists.{number_of}
 use Rattle.pen.proofs.Naming.{none_named, one_named}
 use Rattle.pen.proofs.writer.Writer.users.Goals as goal
@@ -14,8 +13,8 @@ pub loop-user-preserved : goal.loop-user-preserved
 loop-user-preserved c =
     let i = c.loop-user.invariant in
     let n = c.number.result in
-    let fits : c.put.result ≡ true = c.put.ensures.fits ∙ lt-ltb (n / 64) (length c.loop-user.named) (omega (arith, i.0)) in
-    (c.put.auto.words ∙ i.0, one_named c.loop-user.named c.put.new.words c.args.users.now c.loop-user.user-index n (record { number = 0 }) c.loop-user-test.true c.number.ensures i.1 (when_true _ _ fits c.put.ensures.set))
+    let inside : n / 64 < length c.loop-user.named = omega (arith, i.0) in
+    (c.put.auto.words ∙ i.0, one_named c.loop-user.named c.put.new.words c.args.users.now c.loop-user.user-index n (record { number = 0 }) c.loop-user-test.true c.number.ensures i.1 (put_there _ _ c.put.result inside c.put.ensures))
 
 pub returns : goal.returns
 returns c =
