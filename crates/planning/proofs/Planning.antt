@@ -23,11 +23,9 @@ use Rattle.deciding.proofs.Viewing.{map_length}
 use Rattle.deciding.specs.declared.plan.Slot.{Slot}
 use Rattle.trees.specs.declared.nodes.Node.{Node}
 use Rattle.trees.specs.declared.tree.UserTree.{UserTree}
-use Rattle.tables.specs.View.{set_of}
-use Rattle.questions.specs.declared.inquiry.Inquiry.{Inquiry}
+use Rattle.tables.specs.View.{set_of, question_of}
 use Rattle.questions.specs.Naming.{users_in}
 use Rattle.questions.proofs.Names.{nodes_name}
-use Rattle.questions.proofs.Making.{askable}
 use Rattle.planning.specs.Seats.{Seated, seated}
 use Rattle.planning.specs.Plans.{Planned}
 use Rattle.planning.proofs.Ranking.{small, edge_inside}
@@ -129,8 +127,6 @@ pub sides_name : (x : UserTree) (ns : List Node) → ns ≡ entries x.nodes → 
 sides_name x ns e = ap users_in e ∙ nodes_name x.nodes x.whole
 
 -- are few
-pub few_sides : (x : Inquiry) (a b : List Node) → a ≡ entries x.larger.nodes → b ≡ entries x.smaller.nodes → length (users_in a) + length (users_in b) ≤ 32
-few_sides x a b ea eb =
-    let larger = named (set_of x.larger.nodes) in
-    let smaller = named (set_of x.smaller.nodes) in
-    omega (arith, ap length (sides_name x.larger a ea), ap length (sides_name x.smaller b eb), length-append larger smaller, (askable x).few_named)
+pub few_sides : (x y : UserTree) → length (names (question_of x.nodes y.nodes)) ≤ 32 → (a b : List Node) → a ≡ entries x.nodes → b ≡ entries y.nodes → length (users_in a) + length (users_in b) ≤ 32
+few_sides x y few a b ea eb =
+    omega (arith, ap length (sides_name x a ea), ap length (sides_name y b eb), length-append (named (set_of x.nodes)) (named (set_of y.nodes)), few)

@@ -1,14 +1,14 @@
 // A plan for a question.
 ghost use Rattle.std.specs.Prelude.{◌≡◌, ℕ, ◌+◌, ◌<◌, ◌≤◌, true, false, [], ◌∷◌, length, Decides};
-ghost use Rattle.policy.specs.Measures.{users, rows, tracked_users};
+ghost use Rattle.policy.specs.Measures.{users, rows, tracked_users, question_operands};
 ghost use Rattle.policy.specs.Tests.{listed};
 ghost use Rattle.policy.specs.Bounds.{Holder, Measured};
+ghost use Rattle.policy.specs.Hire.{names};
 ghost use Rattle.rbac.specs.Roles.{roles_of};
 ghost use Rattle.bounded.specs.Entries.{entries};
-ghost use Rattle.tables.specs.View.{state_of, policy_of};
+ghost use Rattle.tables.specs.View.{state_of, policy_of, question_of};
 ghost use Rattle.tables.specs.Rows.{is_of, Apart};
 ghost use Rattle.questions.specs.Naming.{users_in};
-ghost use Rattle.questions.specs.Inquired.{inquired};
 ghost use Rattle.deciding.specs.Slots.{slots_of};
 ghost use Rattle.planning.specs.Plans.{Planned};
 ghost use Rattle.planning.specs.Ranks.{Ranked};
@@ -19,11 +19,9 @@ use crate::seats::{has_slot, is_trusted, seat};
 use bounded::Bounded;
 use deciding::{Plan, Slot};
 use policy::{TRACKED_USERS, TRUSTED_USERS};
-use questions::Inquiry;
 use rbac::{RoleSet, User};
-use soundness::Valid;
 use tables::{Row, Tables};
-use trees::Node;
+use trees::{Node, UserTree};
 
 // Among so many users one has no slot and is not trusted.
 const CANDIDATES: u16 = (TRACKED_USERS + TRUSTED_USERS) as u16;
@@ -98,16 +96,17 @@ fn hire(tables: &Tables, slots: &[Slot]) -> User
     unreachable()
 }
 
-// The users with a row, those named in the question, and one hire, in their slots.
-pub fn plan_of(board: &Valid, asked: &Inquiry) -> Plan
-    ensures planned { Planned (policy_of board.now.tables) (state_of board.now.tables) (inquired asked.now) (slots_of result) }
-    ensures ranked { Ranked (policy_of board.now.tables) result.masks.seniors result.masks.givers }
-    ensures measured { Measured (policy_of board.now.tables) (state_of board.now.tables) }
+// The users with a row, those named in the question's two sets, and one hire, in their slots.
+pub fn plan_of(tables: &Tables, larger: &UserTree, smaller: &UserTree) -> Plan
+    requires apart { Apart tables.now }
+    requires few { length (names (question_of larger.now.nodes smaller.now.nodes)) ≤ question_operands }
+    ensures planned { Planned (policy_of tables.now) (state_of tables.now) (question_of larger.now.nodes smaller.now.nodes) (slots_of result) }
+    ensures ranked { Ranked (policy_of tables.now) result.masks.seniors result.masks.givers }
+    ensures measured { Measured (policy_of tables.now) (state_of tables.now) }
 {
-    let tables = &board.tables;
     let mut slots = seat_rows(tables, &tables.rows);
-    seat_named(tables, asked.larger.nodes.entries(), &mut slots);
-    seat_named(tables, asked.smaller.nodes.entries(), &mut slots);
+    seat_named(tables, larger.nodes.entries(), &mut slots);
+    seat_named(tables, smaller.nodes.entries(), &mut slots);
     let user = hire(tables, slots.entries());
     let _ = slots.push(Slot {
         user,

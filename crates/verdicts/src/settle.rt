@@ -104,7 +104,7 @@ pub fn decide(
     let case = Case {
         tables: &board.tables,
         asked,
-        plan: &plan_of(board, asked),
+        plan: &plan_of(&board.tables, &asked.larger, &asked.smaller),
     };
     Ok(case.decide_in(list, guard.words))
 }

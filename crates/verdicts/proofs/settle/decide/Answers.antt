@@ -4,6 +4,9 @@ use Rattle.questions.proofs.Making.{askable}
 use Rattle.verdicts.proofs.Settling.{whole_needs_lem}
 use Rattle.verdicts.proofs.settle.decide.Goals as goal
 
+pub plan_of-requires : goal.plan_of-requires
+plan_of-requires c = record { apart = (sound c.args.board.now).apart; few = (askable c.args.asked.now).few_named }
+
 pub decide_in-requires : goal.decide_in-requires
 decide_in-requires c =
     let e = c.plan_of.ensures in
