@@ -8,11 +8,11 @@ use rbac::{Role, RoleSet, User};
 use soundness::Valid;
 use tables::{AssignEntry, Needs, RevokeEntry, Tables};
 use texts::alone::read_question;
-use trees::{Node, Nodes, UserTree};
+use trees::{Node, UserTree, no_nodes};
 use verdicts::{Verdict, decide};
 
-pub(crate) fn ua(tables: &mut Tables, user: u16, role: u32) -> Option<bool> {
-    Some(tables.assign(User::of(user), Role::new(role)?))
+pub(crate) fn ua(tables: &mut Tables, user: u16, role: u32) -> Option<()> {
+    tables.assign(User::from(user), Role::new(role)?).ok()
 }
 
 pub(crate) fn rh(tables: &mut Tables, senior: u32, junior: u32) -> Option<()> {
@@ -25,23 +25,27 @@ pub(crate) fn rh(tables: &mut Tables, senior: u32, junior: u32) -> Option<()> {
 
 pub(crate) fn trusting(tables: Tables, user: u16) -> Tables {
     let mut more = tables;
-    more.trusted.push(User::of(user));
+    let _ = more.trusted.push(User::from(user));
     more
 }
 
-// Members of the role, or of both roles where they are two.
-pub(crate) fn of(role: u8) -> Needs {
-    let mut at = [Node::Nobody; 63];
-    at[0] = Node::Role(role);
-    Needs::Roles(Nodes { at, len: 1 })
+// A condition of these nodes.
+fn needs(nodes: &[Node]) -> Needs {
+    let mut list = no_nodes();
+    for node in nodes {
+        let _ = list.push(*node);
+    }
+    Needs::Roles(list)
 }
 
-pub(crate) fn of_both(one: u8, other: u8) -> Needs {
-    let mut at = [Node::Nobody; 63];
-    at[0] = Node::Role(one);
-    at[1] = Node::Role(other);
-    at[2] = Node::And;
-    Needs::Roles(Nodes { at, len: 3 })
+// Members of the role.
+pub(crate) fn of(role: u8) -> Needs {
+    needs(&[Node::Role(role)])
+}
+
+// Members of both roles.
+fn of_both(one: u8, other: u8) -> Needs {
+    needs(&[Node::Role(one), Node::Role(other), Node::And])
 }
 
 pub(crate) fn one(role: u32) -> Option<RoleSet> {
@@ -57,20 +61,19 @@ pub(crate) fn assign(
     admin: u32,
     needs: Needs,
     targets: RoleSet,
-) -> Option<bool> {
+) -> Option<()> {
     let admin = Role::new(admin)?;
-    Some(
-        tables.assigns.push(AssignEntry {
-            admin,
-            needs,
-            targets,
-        }),
-    )
+    let rule = AssignEntry {
+        admin,
+        needs,
+        targets,
+    };
+    tables.assigns.push(rule).ok()
 }
 
-pub(crate) fn revoke(tables: &mut Tables, admin: u32, targets: RoleSet) -> Option<bool> {
+pub(crate) fn revoke(tables: &mut Tables, admin: u32, targets: RoleSet) -> Option<()> {
     let admin = Role::new(admin)?;
-    Some(tables.revokes.push(RevokeEntry { admin, targets }))
+    tables.revokes.push(RevokeEntry { admin, targets }).ok()
 }
 
 // Users 1, 2 and 3 have the roles 1, 2 and 3; role 2 gives role 5 to members of role 1, role 3 gives role 4 to members of role 5.
@@ -115,20 +118,18 @@ pub(crate) fn office() -> Option<Tables> {
 
 pub(crate) fn asked(text: &[u8]) -> Option<Inquiry> {
     let mut extra = Extra::new();
-    match read_question(text, &mut extra) {
-        Ok(kind) => Inquiry::new(
-            kind,
-            UserTree::new(extra.left)?,
-            UserTree::new(extra.right)?,
-        ),
-        Err(_) => None,
-    }
+    let kind = read_question(text, &mut extra).ok()?;
+    Inquiry::new(
+        kind,
+        UserTree::new(extra.left)?,
+        UserTree::new(extra.right)?,
+    )
 }
 
 pub(crate) fn blank() -> Option<RunStep> {
     Some(RunStep {
-        actor: User::of(0),
-        user: User::of(0),
+        actor: User::from(0),
+        user: User::from(0),
         role: Role::new(0)?,
         rule: 0,
     })
@@ -139,19 +140,12 @@ pub(crate) fn answer(tables: &Tables, text: &[u8], list: &mut [RunStep]) -> Opti
     let board = Valid::new(*tables)?;
     let asked = asked(text)?;
     let mut work = [1; WORK_WORDS];
-    match decide(&board, &asked, list, &mut work) {
-        Ok(verdict) => Some(verdict),
-        Err(_) => None,
-    }
+    decide(&board, &asked, list, &mut work).ok()
 }
 
 // Yes or no, and by how many steps it is shown; none where it is not.
 pub(crate) fn shown(tables: &Tables, text: &[u8]) -> Option<(bool, Option<usize>)> {
     let mut list = [blank()?; LIST_PLACES];
     let verdict = answer(tables, text, &mut list)?;
-    if verdict.shown {
-        Some((verdict.yes, Some(verdict.steps)))
-    } else {
-        Some((verdict.yes, None))
-    }
+    Some((verdict.yes, verdict.run.map(|run| run.steps)))
 }
