@@ -15,7 +15,7 @@ use deciding::{Delegation, RunStep, Slot};
 use policy::Place;
 use steps::close;
 
-// Puts the roles assigned now into the words of the slots.
+// Puts the roles assigned now into the words of the slots. The words are a lent table, so they stand beside the slots.
 pub(crate) fn fill(work: &mut [u64], slots: &[Slot])
     requires { length slots.now ≤ length work.old }
     ensures words { (i : ℕ) → i < length slots.now → slice_index work.new i ≡ (slot_at slots.now i).roles.word }
