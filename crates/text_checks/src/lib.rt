@@ -225,6 +225,17 @@ mod tests {
         assert_eq!(rt; board(&text), (3, 3));
     }
 
+    // 60,000 parentheses that open and as many that close make a text that is too long, whatever it says.
+    #[test]
+    fn depth_past_the_length(rt: HostRuntime) {
+        let mut text = [40u8; 120034];
+        put(&mut text, 0, b"RBD 1\nregime aatu\nalways ");
+        put(&mut text, 60025, b"r7");
+        fill(&mut text, 60027, 120027, b')');
+        put(&mut text, 120027, b" >= {}\n");
+        assert_eq!(rt; board(&text), (1, 0));
+    }
+
     #[test]
     fn lengths(rt: HostRuntime) {
         let mut text = [b'x'; 65537];
