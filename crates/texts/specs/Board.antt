@@ -26,10 +26,10 @@ pub record Cut (s l after : List ℕ) : Type 0 where
   pub text : s ≡ l ++ 10 ∷ after
   pub one : unbroken l ≡ true
 
--- the part that is cut off; none where nothing ends a line
+-- the part that is cut off; none where nothing ends a line, and then nothing is read
 abbrev pub Cuts : List ℕ → Option (Bor (List ℕ)) → List ℕ → Type 0
 Cuts s (Some p) after = Cut s p.now after
-Cuts s None after = unbroken s ≡ true
+Cuts s None after = (unbroken s ≡ true) × (after ≡ s)
 
 -- the mark with its version, and the regime
 abbrev pub mark_line : List ℕ
@@ -61,7 +61,7 @@ BadLine s g = ((unbroken s ≡ true) × (s ≢ []) × (g ≡ Syntax)) ⊎ ((l : 
 
 -- what comes next in a text whose line of this number begins here
 abbrev pub Comes : ℕ → List ℕ → Result (Option Change) Fault → List ℕ → Extra → Type 0
-Comes n s (Ok None) after e = s ≡ []
+Comes n s (Ok None) after e = (s ≡ []) × (after ≡ [])
 Comes n s (Ok (Some c)) after e = (l : List ℕ) × (Cut s l after) × (Line l (Ok c) e)
 Comes n s (Err TooLong) after e = ⊥
 Comes n s (Err Mark) after e = ⊥

@@ -12,7 +12,9 @@ ending : (c : After-run_length-end) → run goes_on c.rest-left.result.now ≡ c
 ending c = run_is goes_on c.rest-left.result.now c.run_length-end.result c.run_length-end.ensures.within c.run_length-end.ensures.each c.run_length-end.ensures.stops
 
 pub returns-then-end-left-clause-read : goal.returns-then-end-left-clause-read
-returns-then-end-left-clause-read c = ap unbroken (sym c.rest-left.ensures) ∙ no_cut _ _ (ending (goal.at.returns-then-end-left-clause-read c).After-run_length-end) c.if-end-left.true
+returns-then-end-left-clause-read c =
+    let whole = no_cut _ _ (ending (goal.at.returns-then-end-left-clause-read c).After-run_length-end) c.if-end-left.true in
+    (ap unbroken (sym c.rest-left.ensures) ∙ whole, c.new.ensures.rest ∙ c.rest-left.ensures)
 
 pub returns-clause-read : goal.returns-clause-read
 returns-clause-read c =
