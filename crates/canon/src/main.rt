@@ -1,17 +1,16 @@
 // Reads a board text from standard input, and prints each of its lines in canonical form, or the refusal of the text and nothing else.
 #![tactic(auto)]
 
-ghost use Rattle.std.specs.Prelude.{◌≤◌, length, IfOk};
-
 mod refusal;
 
+use console::fill;
 use grammar::Reader;
 use lines::{Change, Extra};
 use policy::{Regime, TRUSTED_USERS};
 use refusal::Refusal;
 use saving::line::write_line;
 use std::io;
-use std::io::{Read, Write};
+use std::io::Write;
 use survey::check;
 use texts::board::{begin, next};
 
@@ -20,21 +19,6 @@ const MOST: usize = 65537;
 
 // No line that is not refused is as long in canonical form.
 const LONGEST_LINE: usize = 2048;
-
-// Fills the place from the reader, as far as it gives: how many bytes. The memory is fixed, and reading to the end would ask for a list that grows.
-fn fill<R: Read>(from: &mut R, place: &mut [u8]) -> io::Result<usize>
-    ensures { IfOk result (λ n. n ≤ length place.old) }
-{
-    let mut len = 0;
-    while len < place.len() {
-        let n = from.read(&mut place[len..])?;
-        if n == 0 {
-            break;
-        }
-        len += n;
-    }
-    Ok(len)
-}
 
 // Prints the line that says the change.
 fn show<W: Write>(out: &mut W, change: Change, extra: &Extra) -> io::Result<()> {

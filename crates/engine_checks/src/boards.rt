@@ -8,7 +8,7 @@ use rbac::{Role, RoleSet, User};
 use soundness::Valid;
 use tables::{AssignEntry, Needs, RevokeEntry, Tables};
 use texts::alone::read_question;
-use trees::{Node, UserTree, no_nodes};
+use trees::{Node, no_nodes};
 use verdicts::{Verdict, decide};
 
 pub(crate) fn ua(tables: &mut Tables, user: u16, role: u32) -> Option<()> {
@@ -119,20 +119,7 @@ pub(crate) fn office() -> Option<Tables> {
 pub(crate) fn asked(text: &[u8]) -> Option<Inquiry> {
     let mut extra = Extra::new();
     let kind = read_question(text, &mut extra).ok()?;
-    Inquiry::new(
-        kind,
-        UserTree::new(extra.left)?,
-        UserTree::new(extra.right)?,
-    )
-}
-
-pub(crate) fn blank() -> Option<RunStep> {
-    Some(RunStep {
-        actor: User::from(0),
-        user: User::from(0),
-        role: Role::new(0)?,
-        rule: 0,
-    })
+    Inquiry::new(kind, extra.left, extra.right)
 }
 
 // The verdict, with its run in the list.
@@ -145,7 +132,7 @@ pub(crate) fn answer(tables: &Tables, text: &[u8], list: &mut [RunStep]) -> Opti
 
 // Yes or no, and by how many steps it is shown; none where it is not.
 pub(crate) fn shown(tables: &Tables, text: &[u8]) -> Option<(bool, Option<usize>)> {
-    let mut list = [blank()?; LIST_PLACES];
+    let mut list = [RunStep::blank(); LIST_PLACES];
     let verdict = answer(tables, text, &mut list)?;
     Some((verdict.yes, verdict.run.map(|run| run.steps)))
 }

@@ -134,7 +134,7 @@ fn trusted_chain() -> Option<Tables> {
 #[test]
 fn a_trusted_user_is_no_hire(rt: HostRuntime) -> Result<(), Fail> {
     let tables = trusted_chain().ok_or(1)?;
-    let mut list = [blank().ok_or(1)?; LIST_PLACES];
+    let mut list = [RunStep::blank(); LIST_PLACES];
     let verdict = answer(&tables, b"necessary {u1,u5,u99} >= r4", &mut list).ok_or(1)?;
     assert!(rt; !verdict.yes);
     let run = verdict.run.ok_or(1)?;

@@ -4,7 +4,7 @@ use questions::Inquiry;
 use rbac::{Role, RoleSet, User};
 use soundness::Valid;
 use tables::{AssignEntry, Needs, Tables};
-use trees::{Node, UserTree, no_nodes};
+use trees::{Node, no_nodes};
 
 // The users that the question names come after all of those with a row.
 const FIRST_NAMED: u16 = 1000;
@@ -67,9 +67,5 @@ pub(crate) fn question() -> Option<Inquiry> {
         smaller.push(Node::User(FIRST_NAMED + k)).ok()?;
         smaller.push(Node::Or).ok()?;
     }
-    Inquiry::new(
-        Kind::Possible,
-        UserTree::new(larger)?,
-        UserTree::new(smaller)?,
-    )
+    Inquiry::new(Kind::Possible, larger, smaller)
 }

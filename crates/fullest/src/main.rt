@@ -6,7 +6,6 @@ mod boards;
 use boards::{Order, board, question};
 use deciding::RunStep;
 use policy::{LIST_PLACES, WORK_WORDS};
-use rbac::{Role, User};
 use std::io;
 use std::io::Read;
 use verdicts::decide;
@@ -19,13 +18,7 @@ fn answer(rt: &HostRuntime, name: char, order: Order) -> io::Result<()> {
     let (Some(board), Some(asked)) = (board(order), question()) else {
         return println!(rt; "{name} is no board");
     };
-    let blank = RunStep {
-        actor: User::from(0),
-        user: User::from(0),
-        role: Role::modulo(0),
-        rule: 0,
-    };
-    let mut list = [blank; LIST_PLACES];
+    let mut list = [RunStep::blank(); LIST_PLACES];
     let mut work = [0; WORK_WORDS];
     match decide(&board, &asked, &mut list, &mut work) {
         Ok(verdict) => {

@@ -115,5 +115,5 @@ trust_read e s good h = answer good refl
     answer false q = verdict trusts s false true true (subst (λ b. Weighed trusts s b true true) q weighed)
     answer true q = (
       verdict trusts s true true true (subst (λ b. Weighed trusts s b true true) q weighed),
-      told trusts s some (λ x w. let u = every x w in record { many = u.many q; first = u.first q; twice = u.twice q }),
+      told trusts s some (λ x w. let u = every x w in record { named = u.named q; many = u.many q; first = u.first q; twice = u.twice q }),
     )

@@ -23,15 +23,15 @@ use Rattle.lines.proofs.Naming.{named_more, below_more, repeats_more, no_and}
 never : (g : Bool) → (g && false) ≡ true → ⊥
 never g y = clash (sym (no_and g) ∙ y)
 
-pub see_none : (ws : List ℕ) (e : Extra) (good : Bool) (ms : List ℕ) (n : ℕ) → Seen ws e good ms → 65536 ≤ n → Seen ws e (good && false) (ms ++ n ∷ [])
-see_none ws e good ms n h le = record {
+pub see_none : (e : Extra) (good : Bool) (ms : List ℕ) (n : ℕ) → Seen e good ms → 65536 ≤ n → Seen e (good && false) (ms ++ n ∷ [])
+see_none e good ms n h le = record {
   users = record {
     fits = no_and good ∙ sym (no_and (all_below 65536 ms)) ∙ ap (λ b. all_below 65536 ms && b) (sym (le-ltb n 65536 le)) ∙ sym (below_more 65536 ms n);
+    named = λ y. absurd (never good y);
     many = λ y. absurd (never good y);
     first = λ y. absurd (never good y);
     twice = λ y. absurd (never good y);
   };
-  marked = λ y. absurd (never good y);
   wide = h.wide;
 }
 
@@ -56,18 +56,18 @@ good_only : (g : Bool) → (g && true) ≡ true → g ≡ true
 good_only true y = refl
 good_only false y = absurd (clash y)
 
-pub see_more : (ws vs : List ℕ) (e f : Extra) (good again : Bool) (ms : List ℕ) (n : ℕ) (u : User) → Seen ws e good ms → n < 65536 → length ms < 18446744073709551615 → u.number ≡ n →
-    again ≡ bits ws n → bits vs ≡ with (bits ws) n → length vs ≡ length ws →
+pub see_more : (e f : Extra) (good again : Bool) (ms : List ℕ) (n : ℕ) (u : User) → Seen e good ms → n < 65536 → length ms < 18446744073709551615 → u.number ≡ n →
+    again ≡ bits e.named n → bits f.named ≡ with (bits e.named) n → length f.named ≡ length e.named →
     kept f.trusted ≡ take 32 (kept e.trusted ++ u ∷ []) → f.many ≡ min (e.many + 1) 18446744073709551615 → f.twice ≡ (e.twice || again) →
-    Seen vs f (good && true) (ms ++ n ∷ [])
-see_more ws vs e f good again ms n u h lt room is a b wide t m w = record {
+    Seen f (good && true) (ms ++ n ∷ [])
+see_more e f good again ms n u h lt room is a b wide t m w = record {
   users = record {
     fits = ap (λ x. x && true) h.users.fits ∙ ap (λ x. all_below 65536 ms && x) (sym (lt-ltb n 65536 lt)) ∙ sym (below_more 65536 ms n);
+    named = λ y. b ∙ fun_ext (λ k. ap (λ g. g k || eqb k n) (h.users.named (good_only good y)) ∙ sym (named_more ms n k));
     many = λ y. let q = h.users.many (good_only good y) in let l : length (ms ++ n ∷ []) ≡ length ms + 1 = length-append ms (n ∷ []) in m ∙ omega arith;
     first = λ y. first_more (kept e.trusted) (kept f.trusted) ms u n t is (h.users.first (good_only good y));
-    twice = λ y. w ∙ ap₂ ◌||◌ (h.users.twice (good_only good y)) (a ∙ ap (λ g. g n) (h.marked (good_only good y))) ∙ sym (repeats_more ms n);
+    twice = λ y. w ∙ ap₂ ◌||◌ (h.users.twice (good_only good y)) (a ∙ ap (λ g. g n) (h.users.named (good_only good y))) ∙ sym (repeats_more ms n);
   };
-  marked = λ y. b ∙ fun_ext (λ k. ap (λ g. g k || eqb k n) (h.marked (good_only good y)) ∙ sym (named_more ms n k));
   wide = wide ∙ h.wide;
 }
 
@@ -81,11 +81,10 @@ unfolding bits
 no_bits n k = ap (λ w. bit w (k % 64)) (zeros_get n (k / 64)) ∙ bit_none (k % 64)
 
 -- before the first
-pub see_start : (e : Extra) → e.many ≡ 0 → e.twice ≡ false → kept e.trusted ≡ [] → Seen (replicate 1024 0) e true []
-see_start e m t k = record {
-  users = record { fits = refl; many = λ y. m; first = λ y. ap (map number_of) k; twice = λ y. t };
-  marked = λ y. fun_ext (no_bits 1024);
-  wide = length-replicate {A = ℕ} 1024 0;
+pub see_start : (e : Extra) → e.named ≡ replicate 1024 0 → e.many ≡ 0 → e.twice ≡ false → kept e.trusted ≡ [] → Seen e true []
+see_start e z m t k = record {
+  users = record { fits = refl; named = λ y. ap bits z ∙ fun_ext (no_bits 1024); many = λ y. m; first = λ y. ap (map number_of) k; twice = λ y. t };
+  wide = ap length z ∙ length-replicate {A = ℕ} 1024 0;
 }
 
 pub both_fit : (r s : Result (Unit {0}) Ground) (a b : Bool) → r ≡ in_range a → s ≡ in_range b → result_and r s ≡ in_range (a && b)

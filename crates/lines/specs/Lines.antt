@@ -3,6 +3,7 @@ use Rattle.std.specs.Prelude.{◌≡◌, ℕ, Bool, true, false, List, [], ◌++
 use Rattle.policy.specs.Measures as measures
 use Rattle.grammar.specs.Phrase.{meaning}
 use Rattle.grammar.specs.declared.grounds.Ground.{Ground}
+use Rattle.words.specs.Words.{bits}
 use Rattle.rbac.specs.Roles.{roles_of}
 use Rattle.rbac.specs.declared.users.User.{User}
 use Rattle.rbac.specs.declared.roles.Role.{Role}
@@ -107,8 +108,9 @@ pub record Lists (ns : List ℕ) (roles : RoleSet) (e : Extra) : Type 0 where
   pub set : roles_of roles ≡ named ns
   pub twice : e.twice ≡ repeats ns
 
--- the users of a `trust` line: how many there are, the first 32 of them, and whether one is named twice
+-- the users of a `trust` line: which they are, how many there are, the first 32 of them, and whether one is named twice
 pub record Trusts (ns : List ℕ) (e : Extra) : Type 0 where
+  pub named : bits e.named ≡ named ns
   pub many : e.many ≡ length ns
   pub first : map number_of (kept e.trusted) ≡ take 32 ns
   pub twice : e.twice ≡ repeats ns

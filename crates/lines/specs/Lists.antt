@@ -24,9 +24,10 @@ Noted None ns = all_below 64 ns ≡ false
 abbrev pub number_of : User → ℕ
 number_of u = u.number
 
--- what was noted of the users of a list: how many there are, the first 32 of them, and whether one is named twice
+-- what was noted of the users of a list: which they are, how many there are, the first 32 of them, and whether one is named twice
 pub record Users (e : Extra) (good : Bool) (ns : List ℕ) : Type 0 where
   pub fits : good ≡ all_below 65536 ns
+  pub named : good ≡ true → bits e.named ≡ named ns
   pub many : good ≡ true → e.many ≡ length ns
   pub first : good ≡ true → map number_of (kept e.trusted) ≡ take 32 ns
   pub twice : good ≡ true → e.twice ≡ repeats ns
@@ -36,11 +37,10 @@ abbrev pub in_range : Bool → Result (Unit {0}) Ground
 in_range true = Ok tt
 in_range false = Err Range
 
--- the same while a list is read, with the table of those that were seen
-pub record Seen (table : List ℕ) (e : Extra) (good : Bool) (ns : List ℕ) : Type 0 where
+-- the same while a list is read, in a table with a bit for each user
+pub record Seen (e : Extra) (good : Bool) (ns : List ℕ) : Type 0 where
   pub users : Users e good ns
-  pub marked : good ≡ true → bits table ≡ named ns
-  pub wide : length table ≡ 1024
+  pub wide : length e.named ≡ 1024
 
 -- all of the text is a list of one or more entries of that letter, and the answer tells of it; else there is none
 pub record Listed (c : ℕ) {V : Type 0} (Tells : V → List ℕ → Type 0) (s : List ℕ) (r : Option V) : Type 0 where

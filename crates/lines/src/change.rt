@@ -31,11 +31,16 @@ pub enum Change {
     Never,
 }
 
-// What is lent beside a change: how many users a `trust` line names and the first 32 of them, whether the line's list
-// names an entry twice, the tree of a condition, which is none where it is `true`, and the trees of two sides.
+// One bit for each user.
+pub(crate) const USER_WORDS: usize = 1024;
+
+// What is lent beside a change: how many users a `trust` line names, the first 32 of them and, one bit for each, all of
+// them; whether the line's list names an entry twice; the tree of a condition, which is none where it is `true`; and the
+// trees of two sides.
 #[derive(Clone, Copy)]
 pub struct Extra {
     pub trusted: Bounded<User, TRUSTED_USERS>,
+    pub named: [u64; USER_WORDS],
     pub many: usize,
     pub twice: bool,
     pub condition: Option<Nodes>,

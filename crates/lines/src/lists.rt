@@ -8,7 +8,7 @@ ghost use Rattle.lines.specs.Entries.{entry_at};
 ghost use Rattle.lines.specs.Lists.{Noted, Listed, Seen, in_range};
 ghost use Rattle.lines.specs.Readings.{TrustRead};
 
-use crate::change::Extra;
+use crate::change::{Extra, USER_WORDS};
 use crate::parts::Names;
 use bounded::Bounded;
 use grammar::{Ground, Reader};
@@ -72,6 +72,7 @@ impl Extra {
     {
         Extra {
             trusted: Bounded::new(User::from(0)),
+            named: [0; USER_WORDS],
             many: 0,
             twice: false,
             condition: Some(no_nodes()),
@@ -85,6 +86,7 @@ impl Extra {
         ensures trusted { kept self.new.trusted ≡ take 32 (kept self.old.trusted ++ user ∷ []) }
         ensures many { self.new.many ≡ min (self.old.many + 1) 18446744073709551615 }
         ensures twice { self.new.twice ≡ self.old.twice }
+        ensures named { self.new.named ≡ self.old.named }
     {
         let _ = self.trusted.push(user);
         self.many = self.many.saturating_add(1);
@@ -99,13 +101,13 @@ pub(crate) fn user(number: u32) -> Option<User>
 }
 
 // Notes one user, or refuses the number where there is none of it.
-fn note(seen: &mut [u64], extra: &mut Extra, number: u32) -> Result<(), Ground>
-    ensures { (good : Bool) (ms : List ℕ) → length ms < 18446744073709551615 → Seen seen.old extra.old good ms → (fits : Bool) × (result ≡ in_range fits) × Seen seen.new extra.new (good && fits) (ms ++ number ∷ []) }
+fn note(extra: &mut Extra, number: u32) -> Result<(), Ground>
+    ensures { (good : Bool) (ms : List ℕ) → length ms < 18446744073709551615 → Seen extra.old good ms → (fits : Bool) × (result ≡ in_range fits) × Seen extra.new (good && fits) (ms ++ number ∷ []) }
 {
     let user = user(number).ok_or(Ground::Range)?;
     let k = number as usize;
-    let again = has(seen, k);
-    let _ = put(seen, k);
+    let again = has(&extra.named, k);
+    let _ = put(&mut extra.named, k);
     extra.twice = extra.twice | again;
     extra.add(user);
     Ok(())
@@ -117,15 +119,15 @@ pub fn users(r: &mut Reader, extra: &mut Extra) -> Result<(), Ground>
 {
     // The count of the users cannot wrap, since the slice of what is left has a length.
     let _left = r.rest();
-    let mut seen = [0u64; 1024];
     let mut fits = Ok(());
     extra.trusted = Bounded::new(User::from(0));
+    extra.named = [0; USER_WORDS];
     extra.many = 0;
     extra.twice = false;
     // What is read says where the list ends, so there is nothing to iterate over.
     'entries: loop {
         let number = entry(r, b'u').ok_or(Ground::Syntax)?;
-        fits = fits.and(note(&mut seen, extra, number));
+        fits = fits.and(note(extra, number));
         if r.is_at_end() {
             return fits;
         }

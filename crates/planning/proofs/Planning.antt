@@ -45,11 +45,11 @@ all_small : (xs : List AssignEntry) → All (λ rule. (r : ℕ) → T (rule.targ
 all_small [] = tt
 all_small (x ∷ xs) = (small x.targets, all_small xs)
 
-target_inside : (t : Tables) (k : ℕ) (rule : AssignRule) → Nth k rule (policy_of t).assigns → (r : ℕ) → T (rule.targets r) → r < 64
+pub target_inside : (t : Tables) (k : ℕ) (rule : AssignRule) → Nth k rule (policy_of t).assigns → (r : ℕ) → T (rule.targets r) → r < 64
 unfolding policy_of
 target_inside t k rule nth = all_nth (λ rule. (r : ℕ) → T (rule.targets r) → r < 64) (all_small (entries t.assigns)) nth
 
-given_inside : (t : Tables) (n r : ℕ) → T ((policy_of t).gives n r) → r < 64
+pub given_inside : (t : Tables) (n r : ℕ) → T ((policy_of t).gives n r) → r < 64
 unfolding policy_of
 given_inside t n r h = small (get_or t.gives n no_roles) r h
 

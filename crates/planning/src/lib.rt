@@ -7,3 +7,4 @@ mod seats;
 
 pub use plans::plan_of;
 pub use ranks::masks_of;
+pub use seats::is_trusted;

@@ -27,7 +27,7 @@ fn is_named(list: &[User], number: u16) -> bool
     list.iter().any(|user| user.number() == number)
 }
 
-pub(crate) fn is_trusted(tables: &Tables, user: User) -> bool
+pub fn is_trusted(tables: &Tables, user: User) -> bool
     ensures is { result ≡ (policy_of tables.now).trusted user.number }
     ensures inside { user.number < users }
 {

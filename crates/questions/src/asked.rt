@@ -4,18 +4,18 @@ ghost use Rattle.policy.specs.Sets.{Static};
 ghost use Rattle.policy.specs.Terms.{side};
 ghost use Rattle.policy.specs.Verdicts.{Askable};
 ghost use Rattle.tables.specs.View.{question_of};
-ghost use Rattle.questions.specs.Inquired.{inquired, Asks};
+ghost use Rattle.questions.specs.Inquired.{inquired, Posable, Asks};
 
 use crate::inquiry::Inquiry;
 use crate::naming::named;
 use crate::statics::is_static;
 use policy::{Kind, QUESTION_OPERANDS, Side};
-use trees::UserTree;
+use trees::{Nodes, UserTree};
 
 impl Inquiry {
-    // This question; none where it is not semi-static or names too many users.
-    pub fn new(kind: Kind, larger: UserTree, smaller: UserTree) -> Option<Inquiry>
-        ensures { MatchOption result (Askable (question_of larger.nodes smaller.nodes) → ⊥) (Asks kind larger smaller) }
+    // The question of these two sets; none where it is not semi-static or names too many users.
+    fn of_sets(kind: Kind, larger: UserTree, smaller: UserTree) -> Option<Inquiry>
+        ensures { MatchOption result (Askable (question_of larger.nodes smaller.nodes) → ⊥) (Asks kind larger.nodes smaller.nodes) }
     {
         let semi_static = is_static(&larger) || is_static(&smaller);
         let few = named(&larger) + named(&smaller) <= QUESTION_OPERANDS;
@@ -28,6 +28,13 @@ impl Inquiry {
         } else {
             None
         }
+    }
+
+    // The question of the two sets whose nodes these are; none where they are no sets', or it cannot be asked.
+    pub fn new(kind: Kind, larger: Nodes, smaller: Nodes) -> Option<Inquiry>
+        ensures { MatchOption result (Posable larger smaller → ⊥) (Asks kind larger smaller) }
+    {
+        Inquiry::of_sets(kind, UserTree::new(larger)?, UserTree::new(smaller)?)
     }
 
     // A side that holds no role and no permission.

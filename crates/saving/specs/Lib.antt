@@ -1,2 +1,3 @@
 pub mod Canonical
 pub mod RoundTrip
+pub mod Places

@@ -1,11 +1,12 @@
 // Lines in their canonical form, into a lent place. The writer and what lies beside a change are two parameters: a struct
 // of both would lend again what is lent to `line`, and each promise would name the text through two references.
-ghost use Rattle.std.specs.Prelude.{◌≡◌, ◌<◌, ◌≤◌, min, length, Some, None};
-ghost use Rattle.pen.specs.Puts.{Wrote, puts, top};
+ghost use Rattle.std.specs.Prelude.{◌≤◌, length};
+ghost use Rattle.pen.specs.Puts.{Wrote};
 ghost use Rattle.lines.specs.Lines.{Sentence, Means, Fine};
 ghost use Rattle.saving.specs.RoundTrip.{Fits, value_of, ReadBack, RoundTrip};
 ghost use Rattle.saving.specs.Canonical.{canonical, Trees, AssignTrees, SideTrees, Saved, role_row, condition_text, assign_text, side_text, trust_text};
 
+use crate::place::save;
 use grammar::{Ground, Reader};
 use lines::{Change, Extra};
 use pen::write::write;
@@ -85,36 +86,11 @@ pub fn line(w: &mut Writer, change: Change, extra: &Extra)
     }
 }
 
-// How long the line is.
-fn line_size(change: Change, extra: &Extra) -> usize
-    ensures { Trees change extra.now → result ≡ min (length (canonical change extra.now)) top }
-{
-    let mut none = [0u8; 0];
-    let mut out = Writer {
-        place: &mut none,
-        len: 0,
-    };
-    line(&mut out, change, extra);
-    out.len
-}
-
-fn put_line(place: &mut [u8], change: Change, extra: &Extra)
-    ensures { Trees change extra.now → place.new ≡ puts place.old 0 (canonical change extra.now) }
-{
-    let mut out = Writer { place, len: 0 };
-    line(&mut out, change, extra);
-}
-
 // Writes the line at the front of the place, and says how long it is; a place that is too short is left as it was.
 pub fn write_line(place: &mut [u8], change: Change, extra: &Extra) -> Option<usize>
     ensures { Trees change extra.now → Saved (canonical change extra.now) place.old result place.new }
 {
-    let size = line_size(change, extra);
-    if place.len() < size {
-        return None;
-    }
-    put_line(place, change, extra);
-    Some(size)
+    save(place, |w| line(w, change, extra))
 }
 
 // Writes the line and reads it back: what comes back says what the line said.

@@ -1,13 +1,16 @@
 -- What one changed row does to the state, and to users having one row each.
-use Rattle.std.proofs.Common.{◌≡◌, ℕ, ◌<◌, not, ◌&&◌, ◌||◌, T, ◌≢◌, ◌⊎◌, List, length, set, sym, ap, ◌∙◌, subst, inl, inr, ⊎_elim, arith, length-set, get_or-set_other, get_or-set_same}
+use Rattle.std.proofs.Common.{◌≡◌, ℕ, ◌<◌, not, ◌&&◌, ◌||◌, Bool, eqb, T, ◌≢◌, ◌⊎◌, List, length, set, sym, ap, ◌∙◌, subst, inl, inr, ⊎_elim, arith, length-set, get_or-set_other, get_or-set_same, eqb→eq}
 use mathlib.Core.Path.{subst⁻¹}
 use Rattle.std.proofs.lemmas.Bool.{cases_eq}
-use Rattle.policy.specs.Runs.{pair}
-use Rattle.policy.proofs.Tests.{either, or_left, or_right, first, second, both, deny, agree, is_it}
+use Rattle.policy.proofs.Tests.{either, or_left, or_right, first, second, both, deny, agree}
 use Rattle.tables.specs.declared.entries.Row.{Row}
 use Rattle.tables.specs.View.{assigned}
-use Rattle.tables.specs.Rows.{row_at, no_row, Used, Clash}
+use Rattle.tables.specs.Rows.{row_at, no_row, Used, Clash, pairs}
 use Rattle.tables.proofs.Placing.{says, assigned_gives, assigned_at}
+
+-- what a user's pair is
+pub is_pair : (u : ℕ) (f : ℕ → Bool) (v q : ℕ) → T (pairs u f v q) → (v ≡ u) × T (f q)
+is_pair u f v q h = (eqb→eq v u (first (eqb v u) (f q) h), second (eqb v u) (f q) h)
 
 module _ (rows : List Row) (i : ℕ) (x : Row) (lt : i < length rows) where
   pub here : row_at (set rows i x) i ≡ x
@@ -38,43 +41,43 @@ module _ (rows : List Row) (i : ℕ) (x : Row) (lt : i < length rows) where
       (λ (ne : j ≡ i → ⊥). inr (j, ne, outside j l, subst (λ (y : Row). T (says y v q)) (there j ne) s))
       (cases_eq j i)
 
-  module _ (u r : ℕ) where
-    pub one_more :
-        ((v q : ℕ) → T (says x v q) → T (says (row_at rows i) v q) ⊎ T (pair u r v q)) → ((v q : ℕ) → T (says (row_at rows i) v q) → T (says x v q)) → T (says x u r)
-        → (v q : ℕ) → assigned (set rows i x) v q ≡ (assigned rows v q || pair u r v q)
-    one_more from to it v q = agree (assigned (set rows i x) v q) (assigned rows v q || pair u r v q)
+  module _ (u : ℕ) (f : ℕ → Bool) where
+    pub some_more :
+        ((v q : ℕ) → T (says x v q) → T (says (row_at rows i) v q) ⊎ T (pairs u f v q)) → ((v q : ℕ) → T (says (row_at rows i) v q) → T (says x v q)) → ((q : ℕ) → T (f q) → T (says x u q))
+        → (v q : ℕ) → assigned (set rows i x) v q ≡ (assigned rows v q || pairs u f v q)
+    some_more from to it v q = agree (assigned (set rows i x) v q) (assigned rows v q || pairs u f v q)
         (λ h. ⊎_elim
         (λ (s : T (says x v q)). ⊎_elim
-        (λ (o : T (says (row_at rows i) v q)). or_left (assigned rows v q) (pair u r v q) (assigned_at rows v q i lt o))
-        (λ (p : T (pair u r v q)). or_right (assigned rows v q) (pair u r v q) p)
+        (λ (o : T (says (row_at rows i) v q)). or_left (assigned rows v q) (pairs u f v q) (assigned_at rows v q i lt o))
+        (λ (p : T (pairs u f v q)). or_right (assigned rows v q) (pairs u f v q) p)
         (from v q s))
-        (λ (j, ne, l, s). or_left (assigned rows v q) (pair u r v q) (assigned_at rows v q j l s))
+        (λ (j, ne, l, s). or_left (assigned rows v q) (pairs u f v q) (assigned_at rows v q j l s))
         (said v q h))
         (λ h. ⊎_elim
         (λ (o : T (assigned rows v q)).
         let (j, l, s) = assigned_gives rows v q o in
         ⊎_elim (λ (e : j ≡ i). new v q (to v q (subst (λ (k : ℕ). T (says (row_at rows k) v q)) e s))) (λ (ne : j ≡ i → ⊥). kept j ne l v q s) (cases_eq j i))
-        (λ (p : T (pair u r v q)). let e = is_it u r v q p in
-        subst⁻¹ (λ (w : ℕ). T (assigned (set rows i x) w q)) e.0 (subst⁻¹ (λ (w : ℕ). T (assigned (set rows i x) u w)) e.1 (new u r it)))
-        (either (assigned rows v q) (pair u r v q) h))
+        (λ (p : T (pairs u f v q)). let e = is_pair u f v q p in
+        subst⁻¹ (λ (w : ℕ). T (assigned (set rows i x) w q)) e.0 (new u q (it q e.1)))
+        (either (assigned rows v q) (pairs u f v q) h))
 
-    pub one_less :
-        ((v q : ℕ) → says x v q ≡ (says (row_at rows i) v q && not (pair u r v q))) → ((j : ℕ) → j ≢ i → j < length rows → T (says (row_at rows j) u r) → ⊥)
-        → (v q : ℕ) → assigned (set rows i x) v q ≡ (assigned rows v q && not (pair u r v q))
-    one_less is alone v q = agree (assigned (set rows i x) v q) (assigned rows v q && not (pair u r v q))
+    pub some_less :
+        ((v q : ℕ) → says x v q ≡ (says (row_at rows i) v q && not (pairs u f v q))) → ((j : ℕ) → j ≢ i → j < length rows → (q : ℕ) → T (f q) → T (says (row_at rows j) u q) → ⊥)
+        → (v q : ℕ) → assigned (set rows i x) v q ≡ (assigned rows v q && not (pairs u f v q))
+    some_less is alone v q = agree (assigned (set rows i x) v q) (assigned rows v q && not (pairs u f v q))
         (λ h. ⊎_elim
         (λ (s : T (says x v q)).
-        let old : T (says (row_at rows i) v q && not (pair u r v q)) = subst T (is v q) s in
-        both (assigned rows v q) (not (pair u r v q)) (assigned_at rows v q i lt (first (says (row_at rows i) v q) (not (pair u r v q)) old)) (second (says (row_at rows i) v q) (not (pair u r v q)) old))
-        (λ (j, ne, l, s). both (assigned rows v q) (not (pair u r v q)) (assigned_at rows v q j l s) (deny (pair u r v q) (λ p.
-        let e = is_it u r v q p in
-        alone j ne l (subst (λ (w : ℕ). T (says (row_at rows j) u w)) e.1 (subst (λ (w : ℕ). T (says (row_at rows j) w q)) e.0 s)))))
+        let old : T (says (row_at rows i) v q && not (pairs u f v q)) = subst T (is v q) s in
+        both (assigned rows v q) (not (pairs u f v q)) (assigned_at rows v q i lt (first (says (row_at rows i) v q) (not (pairs u f v q)) old)) (second (says (row_at rows i) v q) (not (pairs u f v q)) old))
+        (λ (j, ne, l, s). both (assigned rows v q) (not (pairs u f v q)) (assigned_at rows v q j l s) (deny (pairs u f v q) (λ p.
+        let e = is_pair u f v q p in
+        alone j ne l q e.1 (subst (λ (w : ℕ). T (says (row_at rows j) w q)) e.0 s))))
         (said v q h))
         (λ h.
-        let (j, l, s) = assigned_gives rows v q (first (assigned rows v q) (not (pair u r v q)) h) in
-        let other = second (assigned rows v q) (not (pair u r v q)) h in
+        let (j, l, s) = assigned_gives rows v q (first (assigned rows v q) (not (pairs u f v q)) h) in
+        let other = second (assigned rows v q) (not (pairs u f v q)) h in
         ⊎_elim
-        (λ (e : j ≡ i). new v q (subst⁻¹ T (is v q) (both (says (row_at rows i) v q) (not (pair u r v q)) (subst (λ (k : ℕ). T (says (row_at rows k) v q)) e s) other)))
+        (λ (e : j ≡ i). new v q (subst⁻¹ T (is v q) (both (says (row_at rows i) v q) (not (pairs u f v q)) (subst (λ (k : ℕ). T (says (row_at rows k) v q)) e s) other)))
         (λ (ne : j ≡ i → ⊥). kept j ne l v q s)
         (cases_eq j i))
 

@@ -1,4 +1,4 @@
--- Assigning and taking a role by one row.
+-- Assigning and taking roles by one row.
 use Rattle.std.proofs.Common.{◌≡◌, ℕ, zero, suc, ◌<◌, ◌≤◌, Bool, true, false, not, ◌&&◌, ◌||◌, T, eqb, ltb, ◌≢◌, ◌⊎◌, List, [], ◌∷◌, map, length, set, position, Option, Some, None, MatchOption, Result, Ok, Err, IsErr, sym, refl, ap, ◌∙◌, subst, ap₂, inl, inr, ⊎_elim, not-suc-le-zero, arith, eqb→eq, lt→ltb, ltb→lt, length-set}
 use mathlib.Core.Path.{subst⁻¹, fun_ext}
 use lib.Dec.{eqb_refl}
@@ -10,20 +10,19 @@ use Rattle.std.proofs.lemmas.List.Quantifiers.{position-Some}
 use Rattle.policy.specs.Bounds.{Holder}
 use Rattle.policy.specs.Granting.{FreeRow, Holders}
 use Rattle.policy.specs.Granting.{Apart as ApartUsers}
-use Rattle.policy.specs.Runs.{pair}
 use Rattle.policy.specs.Tests.{listed}
-use Rattle.policy.proofs.Tests.{either, or_left, or_right, first, second, both, deny, as_test, is_it}
+use Rattle.policy.proofs.Tests.{either, or_left, or_right, first, second, both, deny, as_test}
 use Rattle.policy.proofs.Turns.{free_row}
 use Rattle.rbac.specs.declared.users.User.{User}
-use Rattle.rbac.specs.declared.roles.Role.{Role}
+use Rattle.rbac.specs.declared.sets.RoleSet.{RoleSet}
 use Rattle.rbac.specs.Roles.{roles_of}
 use Rattle.tables.specs.declared.entries.Row.{Row}
 use Rattle.tables.specs.declared.rows.RowsFull.{RowsFull}
 use Rattle.tables.specs.declared.tables.Tables.{Tables}
 use Rattle.tables.specs.View.{assigned, state_of}
-use Rattle.tables.specs.Rows.{row_at, no_row, Used, Clash, is_used, is_of, with_rows, Given, Taken, Apart, plus, minus, Done, Full, Assigned, Unassigned}
+use Rattle.tables.specs.Rows.{row_at, no_row, Used, Clash, is_used, is_of, with_rows, Given, Taken, Apart, pairs, plus, minus, Done, Full, AllAssigned, AllUnassigned}
 use Rattle.tables.proofs.Placing.{says, assigned_gives, assigned_at, used_gives, gives_used}
-use Rattle.tables.proofs.Assigning.{here, there, one_more, one_less, still_apart}
+use Rattle.tables.proofs.Assigning.{is_pair, here, there, some_more, some_less, still_apart}
 
 -- the state, from what the rows say
 state_is : (t : Tables) (xs : List Row) (f : ℕ → ℕ → Bool) → ((v q : ℕ) → (ltb v 65536 && assigned xs v q) ≡ f v q) → state_of (with_rows t xs) ≡ f
@@ -60,69 +59,72 @@ not_true false e f = both_ways false refl f
 none_at : (p : Row → Bool) (xs : List Row) → position p xs ≡ None → (k : ℕ) → k < length xs → p (row_at xs k) ≡ false
 none_at p xs e k l = let past : length xs ≤ position_or_len p xs = grind (arith, common_steps) in fails_before_first p xs k no_row (omega arith)
 
-module _ (t : Tables) (i : ℕ) (lt : i < length t.rows) (u : User) (r : Role) (x : Row) (small : u.number < 65536) (given : Given u r (row_at t.rows i) x) where
+module _ (t : Tables) (i : ℕ) (lt : i < length t.rows) (u : User) (rs : RoleSet) (x : Row) (small : u.number < 65536) (given : Given u rs (row_at t.rows i) x) where
   abbrev rows : List Row
   rows = t.rows
 
   abbrev old : Row
   old = row_at rows i
 
+  abbrev f : ℕ → Bool
+  f = roles_of rs
+
   number_is : x.user.number ≡ u.number
   number_is = ap (λ (v : User). v.number) given.0
 
-  role_is : (q : ℕ) → roles_of x.roles q ≡ (roles_of old.roles q || eqb q r.number)
+  role_is : (q : ℕ) → roles_of x.roles q ≡ (roles_of old.roles q || f q)
   role_is q = ap (λ f. f q) given.1
 
   pub done :
       (Used old → old.user.number ≡ u.number)
       → (Apart t → (j : ℕ) → j ≢ i → j < length rows → Used (row_at rows j) → (row_at rows j).user.number ≡ u.number → ⊥)
       → ((Holder (state_of t) u.number → ⊥) → FreeRow (state_of t))
-      → (after : Tables) → after ≡ with_rows t (set rows i x) → Done t u.number r.number after
+      → (after : Tables) → after ≡ with_rows t (set rows i x) → Done t u.number (roles_of rs) after
   unfolding state_of
   done owner alone room after whole = record {
     place = i;
     row = x;
     whole = whole;
-    state = ap state_of whole ∙ state_is t (set rows i x) (plus (state_of t) u.number r.number) now_said;
+    state = ap state_of whole ∙ state_is t (set rows i x) (plus (state_of t) u.number f) now_said;
     apart = λ apart. subst⁻¹ Apart whole (still_apart rows i x lt apart (λ j ne l used e. alone apart j ne l used (e ∙ number_is)));
     room = room;
   }
     where
-      from : (v q : ℕ) → T (says x v q) → T (says old v q) ⊎ T (pair u.number r.number v q)
+      from : (v q : ℕ) → T (says x v q) → T (says old v q) ⊎ T (pairs u.number f v q)
       from v q h =
           let at : v ≡ u.number = eqb→eq v x.user.number (first (eqb v x.user.number) (roles_of x.roles q) h) ∙ number_is in
           ⊎_elim
           (λ (o : T (roles_of old.roles q)). inl (both (eqb v old.user.number) (roles_of old.roles q) (as_test _ (eq-eqb v old.user.number (at ∙ sym (owner (q, o))))) o))
-          (λ (o : T (eqb q r.number)). inr (both (eqb v u.number) (eqb q r.number) (as_test _ (eq-eqb v u.number at)) o))
-          (either (roles_of old.roles q) (eqb q r.number) (subst T (role_is q) (second (eqb v x.user.number) (roles_of x.roles q) h)))
+          (λ (o : T (f q)). inr (both (eqb v u.number) (f q) (as_test _ (eq-eqb v u.number at)) o))
+          (either (roles_of old.roles q) (f q) (subst T (role_is q) (second (eqb v x.user.number) (roles_of x.roles q) h)))
 
       to : (v q : ℕ) → T (says old v q) → T (says x v q)
       to v q h =
           let o : T (roles_of old.roles q) = second (eqb v old.user.number) (roles_of old.roles q) h in
           let at : v ≡ old.user.number = eqb→eq v old.user.number (first (eqb v old.user.number) (roles_of old.roles q) h) in
           both (eqb v x.user.number) (roles_of x.roles q) (as_test _ (eq-eqb v x.user.number (at ∙ owner (q, o) ∙ sym number_is)))
-          (subst⁻¹ T (role_is q) (or_left (roles_of old.roles q) (eqb q r.number) o))
+          (subst⁻¹ T (role_is q) (or_left (roles_of old.roles q) (f q) o))
 
-      it : T (says x u.number r.number)
-      it = both (eqb u.number x.user.number) (roles_of x.roles r.number) (as_test _ (eq-eqb u.number x.user.number (sym number_is)))
-          (subst⁻¹ T (role_is r.number) (or_right (roles_of old.roles r.number) (eqb r.number r.number) (eqb_refl r.number)))
+      it : (q : ℕ) → T (f q) → T (says x u.number q)
+      it q h = both (eqb u.number x.user.number) (roles_of x.roles q) (as_test _ (eq-eqb u.number x.user.number (sym number_is)))
+          (subst⁻¹ T (role_is q) (or_right (roles_of old.roles q) (f q) h))
 
       spread : (a b c : Bool) → (T c → T a) → (a && (b || c)) ≡ ((a && b) || c)
       spread true b c h = refl
       spread false b true h = absurd (h tt)
       spread false b false h = refl
 
-      now_said : (v q : ℕ) → (ltb v 65536 && assigned (set rows i x) v q) ≡ plus (state_of t) u.number r.number v q
+      now_said : (v q : ℕ) → (ltb v 65536 && assigned (set rows i x) v q) ≡ plus (state_of t) u.number f v q
       now_said v q =
-          ap (λ b. ltb v 65536 && b) (one_more rows i x lt u.number r.number from to it v q)
-          ∙ spread (ltb v 65536) (assigned rows v q) (pair u.number r.number v q)
-          (λ p. lt→ltb v 65536 (subst⁻¹ (λ (w : ℕ). w < 65536) (is_it u.number r.number v q p).0 small))
+          ap (λ b. ltb v 65536 && b) (some_more rows i x lt u.number f from to it v q)
+          ∙ spread (ltb v 65536) (assigned rows v q) (pairs u.number f v q)
+          (λ p. lt→ltb v 65536 (subst⁻¹ (λ (w : ℕ). w < 65536) (is_pair u.number f v q p).0 small))
 
 -- a row that is found by its user
-pub done_found : (t : Tables) (i : ℕ) (u : User) (r : Role) (x : Row) → u.number < 65536 → Given u r (row_at t.rows i) x → position (is_of u.number) t.rows ≡ Some i
-    → (after : Tables) → after ≡ with_rows t (set t.rows i x) → Done t u.number r.number after
-done_found t i u r x small given at after whole =
-    done t i lt u r x small given (λ _. number)
+pub done_found : (t : Tables) (i : ℕ) (u : User) (rs : RoleSet) (x : Row) → u.number < 65536 → Given u rs (row_at t.rows i) x → position (is_of u.number) t.rows ≡ Some i
+    → (after : Tables) → after ≡ with_rows t (set t.rows i x) → Done t u.number (roles_of rs) after
+done_found t i u rs x small given at after whole =
+    done t i lt u rs x small given (λ _. number)
     (λ apart j ne l used-j e. other apart j ne l used-j e)
     (λ none. absurd (none (subst (λ (n : ℕ). Holder (state_of t) n) number (gives_holder t i lt used (subst⁻¹ (λ (n : ℕ). n < 65536) number small)))))
     after whole
@@ -155,11 +157,11 @@ as_many [] = refl
 as_many (x ∷ xs) = ap suc (as_many xs)
 
 -- a row that is free, for a user who has none
-pub done_fresh : (t : Tables) (i : ℕ) → length t.rows ≡ 100 → (u : User) (r : Role) (x : Row) → u.number < 65536 → Given u r (row_at t.rows i) x
+pub done_fresh : (t : Tables) (i : ℕ) → length t.rows ≡ 100 → (u : User) (rs : RoleSet) (x : Row) → u.number < 65536 → Given u rs (row_at t.rows i) x
     → position (λ row. not (is_used row)) t.rows ≡ Some i → position (is_of u.number) t.rows ≡ None
-    → (after : Tables) → after ≡ with_rows t (set t.rows i x) → Done t u.number r.number after
-done_fresh t i full u r x small given at none after whole =
-    done t i lt u r x small given
+    → (after : Tables) → after ≡ with_rows t (set t.rows i x) → Done t u.number (roles_of rs) after
+done_fresh t i full u rs x small given at none after whole =
+    done t i lt u rs x small given
     (λ used. absurd (not_true (is_used (row_at t.rows i)) free (gives_used (row_at t.rows i) used)))
     (λ apart j ne l used e. not_of u.number (row_at t.rows j) (none_at (is_of u.number) t.rows none j l) used e)
     (free_row (state_of t) u.number ys all me (omega (arith, as_many (set t.rows i x), length-set t.rows i x)))
@@ -227,31 +229,31 @@ full t u many none used = record {
     in_use k l = used_gives (row_at t.rows k) (held k l).0
 
 -- neither way
-pub refused : (t : Tables) (u r : ℕ) → length t.rows ≡ 100 → (place other : Option ℕ) → place ≡ position (is_of u) t.rows → other ≡ None
-    → MatchOption place (other ≡ position (λ row. not (is_used row && ltb row.user.number 65536)) t.rows) (λ k. other ≡ Some k) → (done : Result (Unit {0}) RowsFull) → IsErr done → Assigned t u r done t
-refused t u r many None other absent at none (Err e) err = full t u many (sym absent) (sym none ∙ at)
-refused t u r many (Some k) other found at same (Err e) err = let none : None ≡ Some k = sym at ∙ same in cc
-refused t u r many place other found at same (Ok x) err = cc
+pub refused : (t : Tables) (u : ℕ) (f : ℕ → Bool) → length t.rows ≡ 100 → (place other : Option ℕ) → place ≡ position (is_of u) t.rows → other ≡ None
+    → MatchOption place (other ≡ position (λ row. not (is_used row && ltb row.user.number 65536)) t.rows) (λ k. other ≡ Some k) → (done : Result (Unit {0}) RowsFull) → IsErr done → AllAssigned t u f done t
+refused t u f many None other absent at none (Err e) err = full t u many (sym absent) (sym none ∙ at)
+refused t u f many (Some k) other found at same (Err e) err = let none : None ≡ Some k = sym at ∙ same in cc
+refused t u f many place other found at same (Ok x) err = cc
 
 -- one way or the other
-pub found_or_fresh : (t : Tables) (i : ℕ) → length t.rows ≡ 100 → (u : User) (r : Role) (x : Row) → u.number < 65536 → Given u r (row_at t.rows i) x
+pub found_or_fresh : (t : Tables) (i : ℕ) → length t.rows ≡ 100 → (u : User) (rs : RoleSet) (x : Row) → u.number < 65536 → Given u rs (row_at t.rows i) x
     → (place other : Option ℕ) → place ≡ position (is_of u.number) t.rows → other ≡ Some i → MatchOption place (other ≡ position (λ row. not (is_used row)) t.rows) (λ k. other ≡ Some k)
-    → (after : Tables) → after ≡ with_rows t (set t.rows i x) → Done t u.number r.number after
-found_or_fresh t i many u r x small given None other absent at free after whole = done_fresh t i many u r x small given (sym free ∙ at) (sym absent) after whole
-found_or_fresh t i many u r x small given (Some k) other found at same after whole = done_found t i u r x small given (sym found ∙ sym same ∙ at) after whole
+    → (after : Tables) → after ≡ with_rows t (set t.rows i x) → Done t u.number (roles_of rs) after
+found_or_fresh t i many u rs x small given None other absent at free after whole = done_fresh t i many u rs x small given (sym free ∙ at) (sym absent) after whole
+found_or_fresh t i many u rs x small given (Some k) other found at same after whole = done_found t i u rs x small given (sym found ∙ sym same ∙ at) after whole
 
 -- a role taken from the row that is found
-pub taken : (t : Tables) (i : ℕ) (u r : ℕ) (role : Role) → role.number ≡ r → (x : Row) → Taken role (row_at t.rows i) x → position (is_of u) t.rows ≡ Some i
-    → (after : Tables) → after ≡ with_rows t (set t.rows i x) → Unassigned t u r after
+pub taken : (t : Tables) (i : ℕ) (u : ℕ) (rs : RoleSet) (x : Row) → Taken rs (row_at t.rows i) x → position (is_of u) t.rows ≡ Some i
+    → (after : Tables) → after ≡ with_rows t (set t.rows i x) → AllUnassigned t u (roles_of rs) after
 unfolding state_of
-taken t i u r role at x given found after whole =
+taken t i u rs x given found after whole =
     let (lt, is-of, _) = position-Some (is_of u) t.rows i no_row found in
     let (used, number) = of_used u (row_at t.rows i) is-of in
     record {
       others = whole ∙ ap (with_rows t) (sym (ap (λ (y : Tables). y.rows) whole));
-      state = λ apart. ap state_of whole ∙ state_is t (set t.rows i x) (minus (state_of t) u r)
-          (λ v q. ap (λ b. ltb v 65536 && b) (one_less t.rows i x lt u r (is number) (λ j ne l s. other apart lt used number j ne l s) v q)
-          ∙ regroup (ltb v 65536) (assigned t.rows v q) (not (pair u r v q)));
+      state = λ apart. ap state_of whole ∙ state_is t (set t.rows i x) (minus (state_of t) u (roles_of rs))
+          (λ v q. ap (λ b. ltb v 65536 && b) (some_less t.rows i x lt u (roles_of rs) (is number) (λ j ne l q h s. other apart lt used number j ne l q s) v q)
+          ∙ regroup (ltb v 65536) (assigned t.rows v q) (not (pairs u (roles_of rs) v q)));
       apart = λ apart. subst⁻¹ Apart whole (still_apart t.rows i x lt apart (λ j ne l used-j e. same_user apart lt used j ne l used-j (e ∙ ap (λ (v : User). v.number) given.0)));
     }
   where
@@ -263,11 +265,11 @@ taken t i u r role at x given found after whole =
     cut true b c = refl
     cut false b c = refl
 
-    is : (row_at t.rows i).user.number ≡ u → (v q : ℕ) → says x v q ≡ (says (row_at t.rows i) v q && not (pair u r v q))
+    is : (row_at t.rows i).user.number ≡ u → (v q : ℕ) → says x v q ≡ (says (row_at t.rows i) v q && not (pairs u (roles_of rs) v q))
     is number v q =
-        ap₂ (λ (w : User) b. eqb v w.number && b) given.0 (ap (λ f. f q) given.1 ∙ ap (λ k. roles_of (row_at t.rows i).roles q && not (eqb q k)) at)
-        ∙ cut (eqb v (row_at t.rows i).user.number) (roles_of (row_at t.rows i).roles q) (eqb q r)
-        ∙ ap (λ n. says (row_at t.rows i) v q && not (eqb v n && eqb q r)) number
+        ap₂ (λ (w : User) b. eqb v w.number && b) given.0 (ap (λ g. g q) given.1)
+        ∙ cut (eqb v (row_at t.rows i).user.number) (roles_of (row_at t.rows i).roles q) (roles_of rs q)
+        ∙ ap (λ n. says (row_at t.rows i) v q && not (eqb v n && roles_of rs q)) number
 
     same_user : Apart t → i < length t.rows → Used (row_at t.rows i) → (j : ℕ) → j ≢ i → j < length t.rows → Used (row_at t.rows j) → (row_at t.rows j).user.number ≡ (row_at t.rows i).user.number → ⊥
     same_user apart lt used j ne l used-j e = ⊎_elim
@@ -275,17 +277,17 @@ taken t i u r role at x given found after whole =
         (λ (h : i ≤ j). apart i j (omega (arith, ne), l, used, used-j, sym e))
         (cases_lt j i)
 
-    other : Apart t → i < length t.rows → Used (row_at t.rows i) → (row_at t.rows i).user.number ≡ u → (j : ℕ) → j ≢ i → j < length t.rows → T (says (row_at t.rows j) u r) → ⊥
-    other apart lt used number j ne l s =
+    other : Apart t → i < length t.rows → Used (row_at t.rows i) → (row_at t.rows i).user.number ≡ u → (j : ℕ) → j ≢ i → j < length t.rows → (r : ℕ) → T (says (row_at t.rows j) u r) → ⊥
+    other apart lt used number j ne l r s =
         let y = row_at t.rows j in
         same_user apart lt used j ne l (r, second (eqb u y.user.number) (roles_of y.roles r) s)
         (sym (eqb→eq u y.user.number (first (eqb u y.user.number) (roles_of y.roles r) s)) ∙ sym number)
 
 -- nothing to take from a user without a row
-pub untouched : (t : Tables) (u r : ℕ) → position (is_of u) t.rows ≡ None → Unassigned t u r t
-untouched t u r none = record {
+pub untouched : (t : Tables) (u : ℕ) (f : ℕ → Bool) → position (is_of u) t.rows ≡ None → AllUnassigned t u f t
+untouched t u f none = record {
   others = refl;
-  state = λ _. fun_ext (λ v. fun_ext (λ q. keep (state_of t v q) (pair u r v q) (λ h p. absurd (absent v q h p))));
+  state = λ _. fun_ext (λ v. fun_ext (λ q. keep (state_of t v q) (pairs u f v q) (λ h p. absurd (absent v q h p))));
   apart = λ apart. apart;
 }
   where
@@ -294,7 +296,7 @@ untouched t u r none = record {
     keep true false f = refl
     keep false b f = refl
 
-    absent : (v q : ℕ) → T (state_of t v q) → T (pair u r v q) → ⊥
+    absent : (v q : ℕ) → T (state_of t v q) → T (pairs u f v q) → ⊥
     absent v q h p =
         let (j, l, used-j, e) = holder_gives t v (q, h) in
-        not_of u (row_at t.rows j) (none_at (is_of u) t.rows none j l) used-j (sym e ∙ (is_it u r v q p).0)
+        not_of u (row_at t.rows j) (none_at (is_of u) t.rows none j l) used-j (sym e ∙ (is_pair u f v q p).0)

@@ -1,16 +1,14 @@
 -- What happens to the rows when one of them is changed, and to the state that they say.
 use Rattle.std.specs.Prelude.{◌≡◌, ℕ, ◌<◌, Bool, not, ◌&&◌, ◌||◌, T, List, length, Result, MatchResult, ◌==◌, slice_index_or, slice_set}
-use Rattle.words.specs.Words.{with}
 use Rattle.policy.specs.Measures.{roles}
 use Rattle.policy.specs.Membership.{State}
-use Rattle.policy.specs.Membership.{User as UserNumber, Role as RoleNumber}
+use Rattle.policy.specs.Membership.{User as UserNumber, Role as RoleNumber, Row as RoleRow}
 use Rattle.policy.specs.Bounds.{Holder}
 use Rattle.policy.specs.Granting.{FreeRow}
 use Rattle.policy.specs.Tests.{some}
-use Rattle.policy.specs.Runs.{pair}
 use Rattle.rbac.specs.declared.users.User.{User}
-use Rattle.rbac.specs.declared.roles.Role.{Role}
-use Rattle.rbac.specs.Roles.{roles_of, without}
+use Rattle.rbac.specs.declared.sets.RoleSet.{RoleSet}
+use Rattle.rbac.specs.Roles.{roles_of, one_role, of_either, of_first}
 use Rattle.tables.specs.declared.entries.Row.{Row}
 use Rattle.tables.specs.declared.rows.RowsFull.{RowsFull}
 use Rattle.tables.specs.declared.tables.Tables.{Tables}
@@ -43,13 +41,13 @@ is_used x = some roles (roles_of x.roles)
 abbrev pub is_of : UserNumber → Row → Bool
 is_of u x = is_used x && x.user.number == u
 
--- the row after a change: one role more, for this user
-abbrev pub Given : User → Role → Row → Row → Type 0
-Given u r x y = (y.user ≡ u) × (roles_of y.roles ≡ with (roles_of x.roles) r.number)
+-- the row after a change: these roles more, for this user
+abbrev pub Given : User → RoleSet → Row → Row → Type 0
+Given u rs x y = (y.user ≡ u) × (roles_of y.roles ≡ of_either (roles_of x.roles) (roles_of rs))
 
--- or one role less
-abbrev pub Taken : Role → Row → Row → Type 0
-Taken r x y = (y.user ≡ x.user) × (roles_of y.roles ≡ without (roles_of x.roles) r.number)
+-- or these roles less
+abbrev pub Taken : RoleSet → Row → Row → Type 0
+Taken rs x y = (y.user ≡ x.user) × (roles_of y.roles ≡ of_first (roles_of x.roles) (roles_of rs))
 
 -- the tables with other rows, and all else as it was
 abbrev pub with_rows : Tables → List Row → Tables
@@ -70,19 +68,23 @@ pub record Lent (change : Row → Row → Type 0) (t : Tables) (place : ℕ) (af
   pub changed : change (row_at t.rows place) row
   pub whole : after ≡ with_rows t (slice_set t.rows place row)
 
--- the state with one pair more, and with one less
-abbrev pub plus : State → UserNumber → RoleNumber → State
-plus s u r v q = s v q || pair u r v q
+-- a user's pairs with these roles
+abbrev pub pairs : UserNumber → RoleRow → State
+pairs u rs v q = v == u && rs q
 
-abbrev pub minus : State → UserNumber → RoleNumber → State
-minus s u r v q = s v q && not (pair u r v q)
+-- the state with them, and without them
+abbrev pub plus : State → UserNumber → RoleRow → State
+plus s u rs v q = s v q || pairs u rs v q
 
--- the role was assigned in one row, and nothing else changed
-pub record Done (t : Tables) (u : UserNumber) (r : RoleNumber) (after : Tables) : Type 0 where
+abbrev pub minus : State → UserNumber → RoleRow → State
+minus s u rs v q = s v q && not (pairs u rs v q)
+
+-- the roles were assigned in one row, and nothing else changed
+pub record Done (t : Tables) (u : UserNumber) (rs : RoleRow) (after : Tables) : Type 0 where
   pub place : ℕ
   pub row : Row
   pub whole : after ≡ with_rows t (slice_set t.rows place row)
-  pub state : state_of after ≡ plus (state_of t) u r
+  pub state : state_of after ≡ plus (state_of t) u rs
   pub apart : Apart t → Apart after
   pub room : (Holder (state_of t) u → ⊥) → FreeRow (state_of t)
 
@@ -92,11 +94,18 @@ pub record Full (t : Tables) (u : UserNumber) (after : Tables) : Type 0 where
   pub no_row : Holder (state_of t) u → ⊥
   pub no_room : Apart t → FreeRow (state_of t) → ⊥
 
-abbrev pub Assigned : Tables → UserNumber → RoleNumber → Result (Unit {0}) RowsFull → Tables → Type 0
-Assigned t u r done after = MatchResult done (λ _. Done t u r after) (λ _. Full t u after)
+abbrev pub AllAssigned : Tables → UserNumber → RoleRow → Result (Unit {0}) RowsFull → Tables → Type 0
+AllAssigned t u rs done after = MatchResult done (λ _. Done t u rs after) (λ _. Full t u after)
 
--- where no user has two rows, the role is taken from the user, and nothing else changed
-pub record Unassigned (t : Tables) (u : UserNumber) (r : RoleNumber) (after : Tables) : Type 0 where
+-- where no user has two rows, the roles are taken from the user, and nothing else changed
+pub record AllUnassigned (t : Tables) (u : UserNumber) (rs : RoleRow) (after : Tables) : Type 0 where
   pub others : after ≡ with_rows t after.rows
-  pub state : Apart t → state_of after ≡ minus (state_of t) u r
+  pub state : Apart t → state_of after ≡ minus (state_of t) u rs
   pub apart : Apart t → Apart after
+
+-- the same of one role
+abbrev pub Assigned : Tables → UserNumber → RoleNumber → Result (Unit {0}) RowsFull → Tables → Type 0
+Assigned t u r done after = AllAssigned t u (one_role r) done after
+
+abbrev pub Unassigned : Tables → UserNumber → RoleNumber → Tables → Type 0
+Unassigned t u r after = AllUnassigned t u (one_role r) after

@@ -2,11 +2,12 @@
 ghost use Rattle.std.specs.Prelude.{◌≡◌, ◌<◌, true, false, not, ◌&&◌, nat_lt, position, MatchOption};
 ghost use Rattle.std.specs.Fn.{FnOnceReturnsAtMut};
 ghost use Rattle.policy.specs.Measures.{users, rows};
-ghost use Rattle.tables.specs.Rows.{Given, Taken, Lent, is_used, is_of, Assigned, Unassigned};
+ghost use Rattle.tables.specs.Rows.{Given, Taken, Lent, is_used, is_of, AllAssigned, AllUnassigned, Assigned, Unassigned};
+ghost use Rattle.rbac.specs.Roles.{roles_of};
 
 use crate::entries::Row;
 use crate::tables::Tables;
-use rbac::{Role, User};
+use rbac::{Role, RoleSet, User};
 
 // Every row is in use, and none of them is the user's.
 #[derive(Clone, Copy, PartialEq, Eq, Debug)]
@@ -32,19 +33,19 @@ impl Row {
         self.is_used().then_some(self.user)
     }
 
-    // The row holds one role more, for this user.
-    fn give(&mut self, user: User, role: Role)
-        ensures { Given user role self.old self.new }
+    // The row holds these roles too, for this user.
+    fn give(&mut self, user: User, roles: RoleSet)
+        ensures { Given user roles self.old self.new }
     {
         self.user = user;
-        self.roles = self.roles.insert(role);
+        self.roles = self.roles.union(roles);
     }
 
-    // The row holds one role less.
-    fn take(&mut self, role: Role)
-        ensures { Taken role self.old self.new }
+    // The row holds these roles no more.
+    fn take(&mut self, roles: RoleSet)
+        ensures { Taken roles self.old self.new }
     {
-        self.roles = self.roles.remove(role);
+        self.roles = self.roles.difference(roles);
     }
 }
 
@@ -71,24 +72,38 @@ impl Tables {
         self.rows.iter().position(|row| row.holder().is_none())
     }
 
-    // Assigns a role to a user; nothing is changed where the user has no row and none is free.
-    pub fn assign(&mut self, user: User, role: Role) -> Result<(), RowsFull>
-        ensures { Assigned self.old user.number role.number result self.new }
+    // Assigns roles to a user; nothing is changed where the user has no row and none is free.
+    pub fn assign_all(&mut self, user: User, roles: RoleSet) -> Result<(), RowsFull>
+        ensures { AllAssigned self.old user.number (roles_of roles) result self.new }
     {
         let place = self
             .place_of(user)
             .or_else(|| self.free_place())
             .ok_or(RowsFull)?;
-        self.lend(place, |row| row.give(user, role));
+        self.lend(place, |row| row.give(user, roles));
         Ok(())
     }
 
-    // Takes a role from a user.
+    // Takes roles from a user.
+    pub fn unassign_all(&mut self, user: User, roles: RoleSet)
+        ensures { AllUnassigned self.old user.number (roles_of roles) self.new }
+    {
+        if let Some(place) = self.place_of(user) {
+            self.lend(place, |row| row.take(roles));
+        }
+    }
+
+    // Assigns one role.
+    pub fn assign(&mut self, user: User, role: Role) -> Result<(), RowsFull>
+        ensures { Assigned self.old user.number role.number result self.new }
+    {
+        self.assign_all(user, RoleSet::one(role))
+    }
+
+    // Takes one role.
     pub fn unassign(&mut self, user: User, role: Role)
         ensures { Unassigned self.old user.number role.number self.new }
     {
-        if let Some(place) = self.place_of(user) {
-            self.lend(place, |row| row.take(role));
-        }
+        self.unassign_all(user, RoleSet::one(role));
     }
 }

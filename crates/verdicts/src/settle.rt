@@ -17,7 +17,6 @@ use deciding::RunStep;
 use planning::plan_of;
 use policy::{Kind, LIST_PLACES, Place, WORK_WORDS, decided_at};
 use questions::Inquiry;
-use rbac::{Role, User};
 use soundness::Valid;
 use steps::TooShort;
 
@@ -41,17 +40,6 @@ fn adds_to(place: Place) -> bool
     }
 }
 
-// Fills the places of a list before anything stands there.
-fn blank() -> RunStep {
-    let user = User::from(0);
-    RunStep {
-        actor: user,
-        user,
-        role: Role::modulo(0),
-        rule: 0,
-    }
-}
-
 impl Case<'_> {
     // Decides the question with tables that are long enough. The lengths are an answer of `decide` and are tested there alone; a type that holds them would wrap the slices once for each part, and the parts would say no less.
     fn decide_in(&self, list: &mut [RunStep], work: &mut [u64]) -> Verdict
@@ -64,7 +52,7 @@ impl Case<'_> {
         let place = decided_at(self.asked.kind, self.asked.fixed_side());
         let adds = adds_to(place);
         let sought = sought(self.asked.kind);
-        let mut run = [blank(); LIST_PLACES];
+        let mut run = [RunStep::blank(); LIST_PLACES];
         fill(work, self.slots());
         let n = self.run_to(place, &mut run, work);
         fill(work, self.slots());

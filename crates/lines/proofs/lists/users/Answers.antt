@@ -12,7 +12,7 @@ use Rattle.lines.proofs.Walking.{walk_start, walk_more, walk_none, walk_end, wal
 use Rattle.lines.proofs.lists.users.Goals as goal
 
 pub entries-init : goal.entries-init
-entries-init c = ([], true, walk_start 117 _, refl, see_start _ refl refl c.new-extra.ensures, inl refl)
+entries-init c = ([], true, walk_start 117 _, refl, see_start _ refl refl refl c.new-extra.ensures, inl refl)
 
 pub returns-in_err-number : goal.returns-in_err-number
 returns-in_err-number c =

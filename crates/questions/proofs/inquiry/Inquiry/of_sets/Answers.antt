@@ -3,8 +3,8 @@ use Rattle.std.proofs.lemmas.Bool.{both_ways}
 use Rattle.policy.specs.Sets.{Static, SemiStatic}
 use Rattle.tables.specs.View.{set_of, question_of}
 use Rattle.questions.proofs.Making.{asked_told, few_told}
-use Rattle.questions.proofs.inquiry.Inquiry.new.Goals as goal
-use Rattle.questions.proofs.inquiry.Inquiry.new.Goals.{After-named-2, then-is_static, else-is_static, else-semi_static-via-then-semi_static+else-few, else-semi_static-via-else-semi_static}
+use Rattle.questions.proofs.inquiry.Inquiry.of_sets.Goals as goal
+use Rattle.questions.proofs.inquiry.Inquiry.of_sets.Goals.{After-named-2, then-is_static, else-is_static, else-semi_static-via-then-semi_static+else-few, else-semi_static-via-else-semi_static}
 
 semi : (c : After-named-2) → Decides c.if-is_static.semi_static (SemiStatic (question_of c.args.larger.nodes c.args.smaller.nodes))
 semi c = elim c.if-is_static.branch [
