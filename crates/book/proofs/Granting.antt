@@ -1,10 +1,10 @@
 -- Permitted changes keep what the regime asks for, and the delegates' calls grant runs.
-use Rattle.std.proofs.Common.{◌≡◌, ℕ, ◌<◌, ◌≤◌, not, ◌&&◌, ◌||◌, T, ◌⊎◌, List, [], ◌∷◌, refl, subst, inl, inr, ⊎_elim, arith}
+use Rattle.std.proofs.Common.{◌≡◌, ℕ, ◌<◌, not, T, List, [], ◌∷◌, refl, subst, inl, inr, arith}
 use Rattle.policy.specs.Membership.{User, Role, IsUser, State}
 use Rattle.policy.specs.Rules.{AssignRule, RevokeRule, aatu, aar, Policy, Nth}
 use Rattle.policy.specs.Rules.{Regime as RegimeMeant}
 use Rattle.policy.specs.Runs.{Change, adds, removes, pair, after, moves, Permitted, end}
-use Rattle.policy.specs.Regimes.{Administers, Revocable, Aatu, Aar, Regular}
+use Rattle.policy.specs.Regimes.{Administers, Aatu, Aar, Regular}
 use Rattle.policy.specs.Granting.{GrantedInTurn, AddingGranted, RemovingGranted}
 use Rattle.policy.proofs.Tests.{or_left, both, deny, clash, is_it}
 use Rattle.book.specs.Book.{Book, with_state}
@@ -15,7 +15,7 @@ use Rattle.book.proofs.Ladder.{end as none_left, pass}
 
 -- ---- the regime
 
-abbrev Asked : RegimeMeant → Policy → State → Type 0
+abbrev pub Asked : RegimeMeant → Policy → State → Type 0
 Asked g p s = elim g [ aatu ↦ Aatu p | aar ↦ Aar p s ]
 
 regular_in : (p : Policy) (s t : State)

@@ -2,7 +2,6 @@
 use Rattle.std.specs.Prelude.{ℕ}
 use Rattle.book.specs.declared.refusal.Cause.{Cause}
 use Rattle.book.specs.declared.refusal.Cause.TheVariants.{TooLong, Mark, Syntax, Range, Measure, NotSemiStatic, TooShort, WrongRegime, ActorTrusted, AlreadyThere, NotThere, NoRule, Full, Circle, AdminIsTarget, AdminUnassigned, NeverRevoked, RequirementFails}
-use Rattle.book.specs.declared.refusal.Refusal.{Refusal}
 
 -- the number of the requirement that fails and the count of steps that show it stand behind the last one alone; elsewhere they are 0
 pub record Told : Type 0 where

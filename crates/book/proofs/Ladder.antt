@@ -7,7 +7,7 @@ abbrev pub Above : ℕ → List Row → Type 0
 Above n [] = Unit {0}
 Above n (l ∷ ls) = (n < l.number) × Above l.number ls
 
-above : (n m : ℕ) (ls : List Row) → Above n ls → Any ls m → n < m
+pub above : (n m : ℕ) (ls : List Row) → Above n ls → Any ls m → n < m
 above n m [] a h = absurd h
 above n m (l ∷ ls) (lt, a) (inl (e, h)) = omega arith
 above n m (l ∷ ls) (lt, a) (inr h) = let k : l.number < m = above l.number m ls a h in omega arith

@@ -1,5 +1,5 @@
 -- An orderly book stays so with other assignments, where they are in range and few enough users have a row.
-use Rattle.std.proofs.Common.{◌≡◌, ℕ, ◌<◌, not, ◌&&◌, ◌||◌, T, List, [], ◌∷◌, ⊎_elim}
+use Rattle.std.proofs.Common.{ℕ, ◌<◌, not, ◌&&◌, ◌||◌, T, List, [], ◌∷◌, ⊎_elim}
 use mathlib.Core.Path.{subst⁻¹}
 use Rattle.policy.specs.Membership.{User, Role, IsUser, State}
 use Rattle.policy.specs.Bounds.{Holder}

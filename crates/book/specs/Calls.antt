@@ -1,5 +1,5 @@
 -- The calls of a story, when each is refused and with which number and line, and what it makes where it is not.
-use Rattle.std.specs.Prelude.{◌≡◌, ℕ, suc, ◌<◌, ◌≤◌, Bool, true, false, cond, not, ◌&&◌, ◌||◌, T, ◌⊎◌, List, [], ◌∷◌, ◌++◌, length, ◌==◌, ◌≢◌, nat_le}
+use Rattle.std.specs.Prelude.{◌≡◌, ℕ, suc, ◌<◌, ◌≤◌, true, cond, not, ◌&&◌, ◌||◌, T, ◌⊎◌, List, [], ◌∷◌, ◌++◌, length, ◌==◌, ◌≢◌, nat_le}
 use Rattle.policy.specs.Measures.{users, roles}
 use Rattle.policy.specs.Membership.{User, Role}
 use Rattle.policy.specs.Rules.{MayAdd, MayRemove}

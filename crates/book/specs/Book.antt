@@ -1,5 +1,5 @@
 -- The book: a plain board in the words of the meaning, and what an officer puts in or takes out.
-use Rattle.std.specs.Prelude.{◌≡◌, Bool, true, false, not, ◌&&◌, ◌||◌, List, [], ◌∷◌, ◌++◌, ◌==◌}
+use Rattle.std.specs.Prelude.{◌≡◌, Bool, false, not, ◌&&◌, ◌||◌, List, [], ◌∷◌, ◌++◌, ◌==◌}
 use Rattle.policy.specs.Membership.{User, Role, Permission, State, Edges}
 use Rattle.policy.specs.Rules.{AssignRule, RevokeRule, Policy, Regime, aatu}
 use Rattle.policy.specs.Requirements.{Requirement}

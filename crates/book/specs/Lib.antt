@@ -5,5 +5,6 @@ pub mod Says
 pub mod Orderly
 pub mod Refusals
 pub mod Calls
+pub mod Faults
 pub mod Entering
 pub mod Stories

@@ -1,0 +1,11 @@
+pub mod Ladder
+pub mod Rowed
+pub mod Granting
+pub mod Ordered
+pub mod Inside
+pub mod Listing
+pub mod Seniority
+pub mod Trusting
+pub mod Kept
+pub mod Tabled
+pub mod Made
