@@ -1,0 +1,17 @@
+pub mod Listing
+pub mod Whole
+pub mod Alone
+pub mod Putting
+pub mod Rowed
+pub mod Related
+pub mod Trusted
+pub mod Saying
+pub mod Sayable
+pub mod Ruled
+pub mod Sized
+pub mod Counted
+pub mod Fitting
+pub mod Returned
+pub mod Once
+pub mod Stopping
+pub mod Surely

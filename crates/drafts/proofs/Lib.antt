@@ -1,0 +1,4 @@
+pub mod Weighing
+pub mod Blank
+pub mod Sets
+pub mod Properties

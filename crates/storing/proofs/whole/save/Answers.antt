@@ -1,0 +1,8 @@
+use Rattle.std.proofs.Common.{rules}
+use Rattle.boardtext.specs.Canonical.{canonical_board}
+use Rattle.drafts.specs.View.{book_of}
+use Rattle.storing.proofs.Surely.{neat_surely}
+use Rattle.storing.proofs.whole.save.Goals as goal
+
+pub returns : goal.returns
+returns c sure = let neat = neat_surely c.args.tables.now sure in c.save.ensures (canonical_board (book_of c.args.tables.now)) (λ v w x. search (rules, neat))
