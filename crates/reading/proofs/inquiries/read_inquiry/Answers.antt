@@ -1,0 +1,26 @@
+use Rattle.std.proofs.Common.{ap₂}
+use mathlib.Core.Path.{subst⁻¹}
+use Rattle.policy.specs.Sets.{Question}
+use Rattle.policy.specs.declared.terms.Kind.{Kind}
+use Rattle.tables.specs.View.{question_of}
+use Rattle.reading.specs.Posing.{Poses}
+use Rattle.reading.proofs.Posing.{by_nodes}
+use Rattle.reading.proofs.inquiries.read_inquiry.Goals as goal
+
+pub unreachable-requires : goal.unreachable-requires
+unreachable-requires c =
+    let (clean, told) = c.in_ok-kind.ensures in
+    let (f, said, asks) = told.some in c.in-None.ensures (by_nodes c.args.text.now clean c.read_question.new.extra c.in_ok-kind.kind f said asks).posable
+
+pub returns : goal.returns
+returns c =
+    let (clean, told) = c.in_ok-kind.ensures in
+    let (f, said, asks) = told.some in
+    let made = c.in-Some.ensures in
+    record {
+      faultless = clean;
+      sentence = f;
+      said = said;
+      poses = subst⁻¹ (λ (k : Kind). Poses f k (question_of c.in-Some.inquiry.larger.nodes c.in-Some.inquiry.smaller.nodes)) made.kind_is
+          (subst⁻¹ (λ (q : Question). Poses f c.in_ok-kind.kind q) (ap₂ question_of made.larger_is made.smaller_is) (by_nodes c.args.text.now clean c.read_question.new.extra c.in_ok-kind.kind f said asks).poses);
+    }
