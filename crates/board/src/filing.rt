@@ -1,0 +1,21 @@
+// Saving a board as its one canonical text.
+ghost use Rattle.std.specs.Prelude.{◌≤◌, length};
+ghost use Rattle.texts.specs.Board.{longest};
+ghost use Rattle.boardtext.specs.Canonical.{canonical_board};
+ghost use Rattle.board.specs.View.{says};
+ghost use Rattle.board.specs.Saving.{SavedAs, Restores};
+
+use crate::board::Board;
+use book::{Cause, Refusal};
+
+impl Board {
+    // Writes the canonical text at the front of the place, and says how long it is. No board's is longer than a board text may be, and each opens to an equal board.
+    pub fn save(&self, place: &mut [u8]) -> Result<usize, Refusal>
+        ensures saved { SavedAs (says self.now) place.old result place.new }
+        ensures fits { length (canonical_board (says self.now)) ≤ longest }
+        ensures restores { Restores (says self.now) }
+    {
+        let size = storing::save(&self.valid.tables, place).ok_or(Cause::TooShort)?;
+        Ok(size)
+    }
+}
