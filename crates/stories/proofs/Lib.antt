@@ -1,0 +1,5 @@
+pub mod Stepping
+pub mod Promising
+pub mod Changing
+pub mod Keeping
+pub mod OneStory

@@ -1,0 +1,4 @@
+pub mod Numbered
+pub mod Heard
+pub mod OneStory
+pub mod Promised
