@@ -1,12 +1,13 @@
 -- A permitted change of one row keeps all that seals a board.
 use Rattle.std.proofs.Common.{◌≡◌, ℕ, List, map, sym, refl, ap, ◌∙◌}
 use mathlib.Core.Path.{subst⁻¹}
-use Rattle.policy.specs.Membership.{State}
-use Rattle.policy.specs.Rules.{Policy, Nth}
-use Rattle.policy.specs.Runs.{Change, after, moves, Permitted}
-use Rattle.policy.specs.Regimes.{Regular}
-use Rattle.policy.specs.Requirements.{Requirement, Stands}
-use Rattle.policy.proofs.Cases.{keeps_requirements}
+use Rattle.meaning.specs.Membership.{State}
+use Rattle.meaning.specs.Rules.{Policy}
+use Rattle.meaning.specs.Lists.{Nth}
+use Rattle.meaning.specs.Runs.{Change, after, moves, Permitted}
+use Rattle.meaning.specs.Regimes.{Regular}
+use Rattle.meaning.specs.Requirements.{Requirement, Stands}
+use Rattle.theory.proofs.Cases.{keeps_requirements}
 use Rattle.lines.specs.Entries.{repeats}
 use Rattle.lines.specs.Lists.{number_of}
 use Rattle.tables.specs.declared.entries.AssignEntry.{AssignEntry}

@@ -1,9 +1,8 @@
 -- What is judged before a row is touched, as ways through the tables of the delegates' calls and as permitted changes.
 use Rattle.std.proofs.Common.{ℕ, ◌<◌, inl, inr, arith}
-use Rattle.policy.specs.Bounds.{Holder}
-use Rattle.policy.specs.Granting.{FreeRow}
-use Rattle.policy.specs.Runs.{adds, removes, moves, Permitted}
-use Rattle.policy.proofs.Tests.{clash}
+use Rattle.meaning.specs.Rows.{Holder, FreeRow}
+use Rattle.meaning.specs.Runs.{adds, removes, moves, Permitted}
+use Rattle.meaning.proofs.Tests.{clash}
 use Rattle.book.specs.Book.{Book}
 use Rattle.book.specs.Grounds.{NoRow}
 use Rattle.book.specs.Refusals.{None, Least}

@@ -1,7 +1,7 @@
 -- A board's canonical text opens to an equal board.
 use Rattle.std.proofs.Common.{◌≡◌, ℕ, ◌≤◌, length, ◌++◌, subst}
-use Rattle.policy.specs.Rules.{Regime, aar}
-use Rattle.policy.specs.Regimes.{Aar}
+use Rattle.meaning.specs.Rules.{Regime, aar}
+use Rattle.meaning.specs.Regimes.{Aar}
 use Rattle.tables.specs.View.{policy_of, state_of}
 use Rattle.soundness.proofs.Stable.{sound}
 use Rattle.texts.specs.Board.{longest}

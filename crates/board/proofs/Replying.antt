@@ -2,10 +2,10 @@
 use Rattle.std.proofs.Common.{◌≡◌, ℕ, ◌<◌, ◌≤◌, ◌⊎◌, List, length, Err, inl, inr, lit<}
 use Rattle.steps.specs.declared.short.TooShort.{TooShort}
 use Rattle.steps.specs.declared.short.TooShort.TheVariants.{Words, Places}
-use Rattle.policy.specs.Membership.{State}
-use Rattle.policy.specs.Rules.{Policy}
-use Rattle.policy.specs.Sets.{Question}
-use Rattle.policy.specs.declared.terms.Kind.{Kind}
+use Rattle.meaning.specs.Membership.{State}
+use Rattle.meaning.specs.Rules.{Policy}
+use Rattle.meaning.specs.Sets.{Question}
+use Rattle.meaning.specs.declared.terms.Kind.{Kind}
 use Rattle.deciding.specs.declared.runs.RunStep.{RunStep}
 use Rattle.verdicts.specs.Verdict.{Settled}
 use Rattle.lines.specs.Lines.{questions}

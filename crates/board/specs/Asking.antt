@@ -1,6 +1,6 @@
 -- What a question is answered with.
 use Rattle.std.specs.Prelude.{◌≡◌, ℕ, List, length, Ok, Err, Result}
-use Rattle.policy.specs.Sets.{Question}
+use Rattle.meaning.specs.Sets.{Question}
 use Rattle.lines.specs.Languages.{Says}
 use Rattle.lines.specs.Lines.{Sentence, questions}
 use Rattle.book.specs.declared.refusal.Refusal.{Refusal}

@@ -1,7 +1,7 @@
 -- What is known of a delegate's call before a row is touched.
 use Rattle.std.specs.Prelude.{ℕ, ◌<◌, not, T, Result, MatchResult}
-use Rattle.policy.specs.Measures.{users, roles}
-use Rattle.policy.specs.Rules.{MayAdd, MayRemove}
+use Rattle.meaning.specs.Measures.{users, roles}
+use Rattle.meaning.specs.Rules.{MayAdd, MayRemove}
 use Rattle.book.specs.declared.refusal.Cause.{Cause}
 use Rattle.book.specs.Numbers.{number_of}
 use Rattle.book.specs.Book.{Book}

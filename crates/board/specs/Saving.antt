@@ -1,6 +1,6 @@
 -- What saving a board answers.
 use Rattle.std.specs.Prelude.{◌≡◌, ℕ, ◌<◌, ◌≤◌, List, ◌++◌, length, drop, Ok, Err, Result}
-use Rattle.policy.specs.Measures.{list_places, work_words}
+use Rattle.meaning.specs.Measures.{list_places, work_words}
 use Rattle.boardtext.specs.Canonical.{canonical_board}
 use Rattle.book.specs.declared.refusal.Cause.TheVariants.{TooShort}
 use Rattle.book.specs.declared.refusal.Refusal.{Refusal}

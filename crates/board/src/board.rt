@@ -1,7 +1,7 @@
 // The sealed board: its tables are sound and in good order, and every standing requirement is safe in all that delegates can reach.
 ghost use Rattle.std.specs.Prelude.{ℕ};
-ghost use Rattle.policy.specs.Rules.{Nth};
-ghost use Rattle.policy.specs.Requirements.{Requirement, Stands};
+ghost use Rattle.meaning.specs.Lists.{Nth};
+ghost use Rattle.meaning.specs.Requirements.{Requirement, Stands};
 ghost use Rattle.tables.specs.View.{policy_of, state_of, requirements_of};
 ghost use Rattle.drafts.specs.Neat.{Neat};
 

@@ -1,13 +1,13 @@
 // A new board, and who is a member of what and has which permission at present.
 ghost use Rattle.std.specs.Prelude.{◌≡◌, Decides};
-ghost use Rattle.policy.specs.Membership.{Member};
-ghost use Rattle.policy.specs.Sets.{HasPermission};
+ghost use Rattle.meaning.specs.Membership.{Member};
+ghost use Rattle.meaning.specs.Sets.{HasPermission};
 ghost use Rattle.book.specs.Book.{new_book};
 ghost use Rattle.board.specs.View.{says};
 
 use crate::board::Board;
 use drafts::Draft;
-use policy::Regime;
+use meaning::Regime;
 use rbac::{Permission, Role, User};
 
 impl Board {

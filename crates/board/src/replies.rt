@@ -1,5 +1,5 @@
 // A question's kind, and the verdict on it.
-use policy::Kind;
+use meaning::Kind;
 use verdicts::Verdict;
 
 #[derive(Clone, Copy)]

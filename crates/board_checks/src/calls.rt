@@ -3,7 +3,7 @@ use crate::boards::{B1, Long, PLACE, made, written};
 use board::Board;
 use book::Refusal;
 use deciding::RunStep;
-use policy::{LIST_PLACES, WORK_WORDS};
+use meaning::{LIST_PLACES, WORK_WORDS};
 use std::process::Abort;
 use std::test::Fail;
 use stories::{add, remove};

@@ -3,7 +3,7 @@ use crate::boards::*;
 use board::Board;
 use book::{Cause, Refusal};
 use deciding::RunStep;
-use policy::{LIST_PLACES, WORK_WORDS};
+use meaning::{LIST_PLACES, WORK_WORDS};
 use std::process::Abort;
 use std::test::Fail;
 

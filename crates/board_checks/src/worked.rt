@@ -3,7 +3,7 @@ use crate::boards::*;
 use crate::calls::*;
 use board::Board;
 use deciding::RunStep;
-use policy::{LIST_PLACES, WORK_WORDS};
+use meaning::{LIST_PLACES, WORK_WORDS};
 use report::{refusal_line, report, report_of};
 use std::process::Abort;
 use std::test::Fail;

@@ -3,9 +3,9 @@ use Rattle.std.proofs.Common.{◌≡◌, ℕ, ◌+◌, ◌≤◌, max, Bool, tru
 use Rattle.std.proofs.Math.Seq.{take-append_seam, drop-append_seam}
 use Rattle.std.proofs.lemmas.Bool.{and_parts}
 use Rattle.std.proofs.lemmas.List.{append_cancel_left}
-use Rattle.policy.specs.Sets.{as_condition, Question}
-use Rattle.policy.specs.Requirements.{always, never}
-use Rattle.policy.specs.Tests.{listed}
+use Rattle.meaning.specs.Sets.{as_condition, Question}
+use Rattle.meaning.specs.Requirements.{always, never}
+use Rattle.meaning.specs.Lists.{listed}
 use Rattle.grammar.specs.declared.sizes.Size.{Size}
 use Rattle.grammar.specs.Text.{begins_digit, is_letter, run}
 use Rattle.grammar.specs.Phrase.{set, Phrase, render, meaning, levels, operands, in_range, Written, Ends}

@@ -2,10 +2,9 @@
 use Rattle.std.proofs.Common.{◌≡◌, ℕ, zero, suc, ◌+◌, ◌*◌, ◌<◌, ◌≤◌, Bool, true, false, cond, not, T, List, [], ◌∷◌, ◌++◌, length, decimal, refl, ap, arith, length-append}
 use mathlib.Core.Path.{subst⁻¹}
 use Rattle.std.proofs.Math.Nat.{mul-add}
-use Rattle.policy.specs.Membership.{State, Edges, same, above}
-use Rattle.policy.specs.Rules.{Nth, first, later}
-use Rattle.policy.specs.Bounds.{Holder}
-use Rattle.policy.specs.Tests.{listed}
+use Rattle.meaning.specs.Membership.{State, Edges, same, above}
+use Rattle.meaning.specs.Lists.{Nth, first, later, listed}
+use Rattle.meaning.specs.Rows.{Holder}
 use Rattle.grammar.specs.Text.{is_nil}
 use Rattle.lines.specs.Entries.{entries}
 use Rattle.pen.specs.Ascending.{ascending}

@@ -1,10 +1,9 @@
 -- The canonical text of an orderly book is no longer than a board text may be.
 use Rattle.std.proofs.Common.{◌≡◌, ℕ, ◌+◌, ◌<◌, ◌≤◌, max, true, ◌&&◌, ltb, leb, List, [], ◌∷◌, ◌++◌, length, codes, decimal, ap, subst, ⊎_elim, arith, length-append, ltb-true, leb-true}
 use Rattle.std.proofs.lemmas.Bool.{and_parts}
-use Rattle.policy.specs.Rules.{AssignRule, RevokeRule, aatu, aar}
-use Rattle.policy.specs.Rules.{Regime as RegimeMeant}
-use Rattle.policy.specs.Requirements.{Requirement, always, never}
-use Rattle.policy.specs.Tests.{listed}
+use Rattle.meaning.specs.Rules.{AssignRule, RevokeRule, aatu, aar, Regime as RegimeMeant}
+use Rattle.meaning.specs.Requirements.{Requirement, always, never}
+use Rattle.meaning.specs.Lists.{listed}
 use Rattle.grammar.specs.Phrase.{render, meaning, levels, operands, in_range}
 use Rattle.lines.specs.Entries.{entries, all_below}
 use Rattle.lines.specs.Bodies.{roles_in, Clause, always_true, in_set, ProperClause, clause_ranged, clause_small, condition, Sides, sides, question_of}

@@ -4,12 +4,11 @@ use mathlib.Core.Path.{fun_ext, subst⁻¹}
 use borrow.Author.Tests.{clash as distinct}
 use Rattle.std.proofs.lemmas.Bool.{lt-ltb, le-ltb}
 use Rattle.std.proofs.lemmas.List.{append-nil}
-use Rattle.policy.specs.Membership.{User, State}
-use Rattle.policy.specs.Rules.{Policy}
-use Rattle.policy.specs.Tests.{listed}
-use Rattle.policy.specs.Bounds.{Holder}
-use Rattle.policy.specs.Granting.{Apart, Holders}
-use Rattle.policy.proofs.Tests.{either, or_left, or_right, first, second, both, as_true, as_test, as_denied, agree}
+use Rattle.meaning.specs.Membership.{User, State}
+use Rattle.meaning.specs.Rules.{Policy}
+use Rattle.meaning.specs.Lists.{listed, Apart}
+use Rattle.meaning.specs.Rows.{Holder, Holders}
+use Rattle.meaning.proofs.Tests.{either, or_left, or_right, first, second, both, as_true, as_test, as_denied, agree}
 use Rattle.lines.specs.Entries.{repeats}
 use Rattle.lines.proofs.Naming.{repeats_more}
 use Rattle.pen.specs.Ascending.{ascending}

@@ -3,9 +3,9 @@ use Rattle.std.proofs.Common.{◌≡◌, ℕ, suc, ◌+◌, Bool, true, false, L
 use borrow.Author.Tests.{clash}
 use Rattle.std.proofs.lemmas.Bool.{and_parts}
 use Rattle.std.proofs.lemmas.List.{append_cancel_left}
-use Rattle.policy.specs.Terms.{regime_of}
-use Rattle.policy.specs.declared.terms.Regime.{Regime}
-use Rattle.policy.specs.declared.terms.Regime.TheVariants.{Aatu, Aar}
+use Rattle.meaning.specs.Terms.{regime_of}
+use Rattle.meaning.specs.declared.terms.Regime.{Regime}
+use Rattle.meaning.specs.declared.terms.Regime.TheVariants.{Aatu, Aar}
 use Rattle.lines.specs.Lines.{lines, Fine}
 use Rattle.texts.specs.Board.{goes_on, unbroken, Cut, mark_line, regime_line}
 use Rattle.book.specs.Book.{Book, Entry, blank, put}

@@ -2,13 +2,12 @@
 use Rattle.std.proofs.Common.{◌≡◌, ℕ, ◌<◌, Bool, true, false, ◌&&◌, T, eqb, ltb, List, [], ◌∷◌, ◌++◌, codes, decimal, sym, refl, ap, ◌∙◌, subst, ⊎_elim, arith, eqb→eq}
 use mathlib.Core.Path.{subst⁻¹}
 use Rattle.std.proofs.lemmas.Bool.{lt-ltb, and_from}
-use Rattle.policy.specs.Membership.{User, Role, Permission, State, Edges, Senior, same, above}
-use Rattle.policy.specs.Rules.{AssignRule, RevokeRule}
-use Rattle.policy.specs.Rules.{Regime as RegimeMeant}
-use Rattle.policy.specs.Requirements.{Requirement}
-use Rattle.policy.specs.Granting.{Holders, FreeRow}
-use Rattle.policy.specs.Tests.{listed}
-use Rattle.policy.proofs.Tests.{either, first, second, deny}
+use Rattle.meaning.specs.Membership.{User, Role, Permission, State, Edges, Senior, same, above}
+use Rattle.meaning.specs.Rules.{AssignRule, RevokeRule, Regime as RegimeMeant}
+use Rattle.meaning.specs.Requirements.{Requirement}
+use Rattle.meaning.specs.Rows.{Holders, FreeRow}
+use Rattle.meaning.specs.Lists.{listed}
+use Rattle.meaning.proofs.Tests.{either, first, second, deny}
 use Rattle.lines.specs.Entries.{entries, AllShort, all_below, repeats}
 use Rattle.lines.specs.Bodies.{rows}
 use Rattle.lines.specs.declared.keyword.Keyword.TheVariants.{Ua, Pa, Rh}

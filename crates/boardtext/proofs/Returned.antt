@@ -1,11 +1,10 @@
 -- The lines of a canonical board are all put in, and come back to its book.
 use Rattle.std.proofs.Common.{◌≡◌, ◌++◌, refl, ap}
 use mathlib.Core.Path.{subst⁻¹}
-use Rattle.policy.specs.Rules.{aatu, aar}
-use Rattle.policy.specs.Rules.{Regime as RegimeMeant}
-use Rattle.policy.specs.Terms.{regime_of}
-use Rattle.policy.specs.declared.terms.Regime.{Regime}
-use Rattle.policy.specs.declared.terms.Regime.TheVariants.{Aatu, Aar}
+use Rattle.meaning.specs.Rules.{aatu, aar, Regime as RegimeMeant}
+use Rattle.meaning.specs.Terms.{regime_of}
+use Rattle.meaning.specs.declared.terms.Regime.{Regime}
+use Rattle.meaning.specs.declared.terms.Regime.TheVariants.{Aatu, Aar}
 use Rattle.texts.specs.Board.{mark_line, regime_line}
 use Rattle.book.specs.Book.{Book, blank}
 use Rattle.book.specs.Orderly.{Orderly}

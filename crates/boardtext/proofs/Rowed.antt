@@ -2,8 +2,8 @@
 use Rattle.std.proofs.Common.{◌≡◌, ℕ, zero, suc, ◌<◌, ◌≤◌, Bool, false, ◌&&◌, T, eqb, ltb, List, [], ◌∷◌, ◌++◌, decimal, sym, refl, ap, ◌∙◌, subst, ⊎_elim, arith, ltb-true, eqb→eq, eq-eqb}
 use mathlib.Core.Path.{fun_ext, subst⁻¹}
 use Rattle.std.proofs.lemmas.Bool.{lt-ltb, cases_eq}
-use Rattle.policy.specs.Tests.{listed}
-use Rattle.policy.proofs.Tests.{either, or_left, or_right, first, second, both, as_true, as_test, agree}
+use Rattle.meaning.specs.Lists.{listed}
+use Rattle.meaning.proofs.Tests.{either, or_left, or_right, first, second, both, as_true, as_test, agree}
 use Rattle.lines.specs.Entries.{entries}
 use Rattle.texts.specs.declared.faults.Way.TheVariants.{Add}
 use Rattle.pen.specs.Ascending.{ascending}

@@ -2,8 +2,9 @@
 use Rattle.std.proofs.Common.{◌≡◌, ℕ, suc, ◌+◌, ◌≤◌, Bool, T, List, [], ◌∷◌, ◌++◌, length, sym, refl, ap, ◌∙◌, subst, ⊎_elim, append_assoc, arith, length-append}
 use Rattle.std.proofs.lemmas.List.{append-nil}
 use mathlib.Core.Path.{subst⁻¹}
-use Rattle.policy.specs.Rules.{AssignRule, RevokeRule, Nth, first, later}
-use Rattle.policy.specs.Requirements.{Requirement}
+use Rattle.meaning.specs.Rules.{AssignRule, RevokeRule}
+use Rattle.meaning.specs.Lists.{Nth, first, later}
+use Rattle.meaning.specs.Requirements.{Requirement}
 use Rattle.lines.specs.Entries.{repeats}
 use Rattle.texts.specs.declared.faults.Way.TheVariants.{Add}
 use Rattle.pen.specs.Ascending.{ascending}

@@ -3,10 +3,10 @@ use Rattle.std.proofs.Common.{◌≡◌, ℕ, ◌+◌, ◌<◌, ◌≤◌, max, 
 use mathlib.Core.Path.{subst⁻¹}
 use borrow.Author.Tests.{clash as distinct}
 use Rattle.std.proofs.lemmas.Bool.{and_parts, and_from}
-use Rattle.policy.specs.Rules.{Condition, everybody, in_role, both, either, AssignRule, RevokeRule}
-use Rattle.policy.specs.Sets.{UserSet, members, holders, only, nobody, union, intersection, as_condition, Question}
-use Rattle.policy.specs.Requirements.{Requirement, always, never}
-use Rattle.policy.specs.Tests.{listed}
+use Rattle.meaning.specs.Rules.{Condition, everybody, in_role, both, either, AssignRule, RevokeRule}
+use Rattle.meaning.specs.Sets.{UserSet, members, holders, only, nobody, union, intersection, as_condition, Question}
+use Rattle.meaning.specs.Requirements.{Requirement, always, never}
+use Rattle.meaning.specs.Lists.{listed}
 use Rattle.grammar.specs.Phrase.{set, Phrase, render, meaning, levels, operands, in_range, static, roles_alone, Short}
 use Rattle.lines.specs.Entries.{entries, AllShort, all_below}
 use Rattle.lines.specs.Bodies.{roles_in, Clause, always_true, in_set, clause_bytes, ProperClause, clause_ranged, clause_small, condition, Assigning, Row, Sides, sides, question_of}

@@ -2,9 +2,9 @@
 use Rattle.std.proofs.Common.{◌≡◌, ℕ, true, ◌⊎◌, List, sym, refl, ap, inl, inr, ap₂}
 use borrow.Author.Tests.{clash as distinct}
 use Rattle.std.proofs.lemmas.Bool.{and_parts}
-use Rattle.policy.specs.Rules.{AssignRule, RevokeRule}
-use Rattle.policy.specs.Sets.{UserSet, members, holders, only, nobody, union, intersection, as_condition}
-use Rattle.policy.specs.Requirements.{Requirement, always, never}
+use Rattle.meaning.specs.Rules.{AssignRule, RevokeRule}
+use Rattle.meaning.specs.Sets.{UserSet, members, holders, only, nobody, union, intersection, as_condition}
+use Rattle.meaning.specs.Requirements.{Requirement, always, never}
 use Rattle.grammar.specs.Phrase.{render, roles_alone}
 use Rattle.lines.specs.Bodies.{Row, Assigning, Sides, sides, question_of}
 use Rattle.lines.specs.Bodies as B

@@ -5,7 +5,7 @@ use Rattle.std.proofs.lemmas.Bool.{and_parts, cases_lt}
 use Rattle.std.proofs.lemmas.List.{append-nil}
 use Rattle.std.proofs.lemmas.Fmt.{length-decimal-le}
 use borrow.Author.Tests.{clash as distinct}
-use Rattle.policy.specs.Sets.{UserSet, members, holders, only, nobody, union, intersection}
+use Rattle.meaning.specs.Sets.{UserSet, members, holders, only, nobody, union, intersection}
 use Rattle.grammar.specs.Phrase.{render, operands, in_range, roles_alone}
 use Rattle.lines.specs.Entries.{entries, all_below}
 use Rattle.pen.specs.Ascending.{ascending}

@@ -4,8 +4,8 @@ use mathlib.Core.Path.{subst⁻¹}
 use borrow.Author.Tests.{clash}
 use Rattle.std.proofs.lemmas.Bool.{and_parts}
 use Rattle.std.proofs.lemmas.List.{append_cancel_left}
-use Rattle.policy.specs.Terms.{regime_of}
-use Rattle.policy.specs.declared.terms.Regime.{Regime}
+use Rattle.meaning.specs.Terms.{regime_of}
+use Rattle.meaning.specs.declared.terms.Regime.{Regime}
 use Rattle.texts.specs.Board.{goes_on, unbroken, Cut, mark_line, regime_line, longest}
 use Rattle.book.specs.Book.{Book, blank}
 use Rattle.book.specs.Refusals.{Row, Any, None, Least, whole, lent}

@@ -2,9 +2,8 @@
 use Rattle.std.proofs.Common.{◌≡◌, ℕ, ◌<◌, ◌≤◌, Bool, true, false, length, refl, ⊎_elim, arith}
 use borrow.Author.Tests.{clash as distinct}
 use Rattle.std.proofs.lemmas.Bool.{cases_lt}
-use Rattle.policy.specs.Rules.{AssignRule, RevokeRule, Policy, aatu, aar}
-use Rattle.policy.specs.Rules.{Regime as RegimeMeant}
-use Rattle.policy.specs.Requirements.{Requirement}
+use Rattle.meaning.specs.Rules.{AssignRule, RevokeRule, Policy, aatu, aar, Regime as RegimeMeant}
+use Rattle.meaning.specs.Requirements.{Requirement}
 use Rattle.book.specs.Book.{Book, requires}
 use Rattle.book.specs.Orderly.{Orderly, Said, RuleSaid, RevokeSaid}
 use Rattle.boardtext.proofs.Trusted.{Excluded}

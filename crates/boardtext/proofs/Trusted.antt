@@ -1,11 +1,10 @@
 -- The line of those who are trusted.
 use Rattle.std.proofs.Common.{◌≡◌, ℕ, ◌≤◌, Bool, false, T, List, [], ◌∷◌, ◌++◌, length, codes, sym, refl, ap, ◌∙◌, subst, ⊎_elim, arith}
 use mathlib.Core.Path.{fun_ext, subst⁻¹}
-use Rattle.policy.specs.Membership.{User}
-use Rattle.policy.specs.Rules.{RevokeRule, aatu, aar, Policy, Nth}
-use Rattle.policy.specs.Rules.{Regime as RegimeMeant}
-use Rattle.policy.specs.Tests.{listed}
-use Rattle.policy.proofs.Tests.{agree}
+use Rattle.meaning.specs.Membership.{User}
+use Rattle.meaning.specs.Rules.{RevokeRule, aatu, aar, Policy, Regime as RegimeMeant}
+use Rattle.meaning.specs.Lists.{Nth, listed}
+use Rattle.meaning.proofs.Tests.{agree}
 use Rattle.lines.specs.Entries.{entries, AllShort, all_below, repeats}
 use Rattle.lines.specs.declared.keyword.Keyword.TheVariants.{Trust}
 use Rattle.texts.specs.declared.faults.Way.TheVariants.{Add}

@@ -1,12 +1,11 @@
 -- The one canonical text of a whole board, in the words of its book.
 use Rattle.std.specs.Prelude.{ℕ, zero, suc, List, [], ◌∷◌, ◌++◌, codes, decimal}
-use Rattle.policy.specs.Measures.{users, roles, permissions}
-use Rattle.policy.specs.Membership.{Row}
-use Rattle.policy.specs.Rules.{Condition, everybody, in_role, both, either, AssignRule, RevokeRule, aatu, aar}
-use Rattle.policy.specs.Rules.{Regime as RegimeMeant}
-use Rattle.policy.specs.Sets.{UserSet, members, nobody, union, intersection, Question}
-use Rattle.policy.specs.Requirements.{Requirement, always, never}
-use Rattle.policy.specs.declared.terms.Regime.TheVariants.{Aatu, Aar}
+use Rattle.meaning.specs.Measures.{users, roles, permissions}
+use Rattle.meaning.specs.Membership.{Row}
+use Rattle.meaning.specs.Rules.{Condition, everybody, in_role, both, either, AssignRule, RevokeRule, aatu, aar, Regime as RegimeMeant}
+use Rattle.meaning.specs.Sets.{UserSet, members, nobody, union, intersection, Question}
+use Rattle.meaning.specs.Requirements.{Requirement, always, never}
+use Rattle.meaning.specs.declared.terms.Regime.TheVariants.{Aatu, Aar}
 use Rattle.grammar.specs.Phrase.{render}
 use Rattle.lines.specs.Entries.{entries}
 use Rattle.texts.specs.Board.{mark_line, regime_line}

@@ -1,12 +1,12 @@
 -- Permitted changes keep what the regime asks for, and the delegates' calls grant runs.
 use Rattle.std.proofs.Common.{◌≡◌, ℕ, ◌<◌, not, T, List, [], ◌∷◌, refl, subst, inl, inr, arith}
-use Rattle.policy.specs.Membership.{User, Role, IsUser, State}
-use Rattle.policy.specs.Rules.{AssignRule, RevokeRule, aatu, aar, Policy, Nth}
-use Rattle.policy.specs.Rules.{Regime as RegimeMeant}
-use Rattle.policy.specs.Runs.{Change, adds, removes, pair, after, moves, Permitted, end}
-use Rattle.policy.specs.Regimes.{Administers, Aatu, Aar, Regular}
-use Rattle.policy.specs.Granting.{GrantedInTurn, AddingGranted, RemovingGranted}
-use Rattle.policy.proofs.Tests.{or_left, both, deny, clash, is_it}
+use Rattle.meaning.specs.Membership.{User, Role, IsUser, State}
+use Rattle.meaning.specs.Rules.{AssignRule, RevokeRule, aatu, aar, Policy, Regime as RegimeMeant}
+use Rattle.meaning.specs.Lists.{Nth}
+use Rattle.meaning.specs.Runs.{Change, adds, removes, pair, after, moves, Permitted, end}
+use Rattle.meaning.specs.Regimes.{Administers, Aatu, Aar, Regular}
+use Rattle.theory.specs.Granting.{GrantedInTurn, AddingGranted, RemovingGranted}
+use Rattle.meaning.proofs.Tests.{or_left, both, deny, clash, is_it}
 use Rattle.book.specs.Book.{Book, with_state}
 use Rattle.book.specs.Refusals.{None}
 use Rattle.book.specs.Calls.{additions, removals}

@@ -2,9 +2,9 @@
 use Rattle.std.proofs.Common.{◌≡◌, ℕ, ◌<◌, true, ◌&&◌, T, eqb, ltb, List, [], ◌∷◌, subst, eqb→eq, ⊎_elim}
 use mathlib.Core.Path.{subst⁻¹}
 use Rattle.std.proofs.Math.Facts.{ltb_yes}
-use Rattle.policy.specs.Membership.{IsUser}
-use Rattle.policy.specs.Tests.{listed}
-use Rattle.policy.proofs.Tests.{either, first, second, as_test}
+use Rattle.meaning.specs.Membership.{IsUser}
+use Rattle.meaning.specs.Lists.{listed}
+use Rattle.meaning.proofs.Tests.{either, first, second, as_test}
 use Rattle.lines.specs.Entries.{all_below}
 use Rattle.lines.specs.Bodies.{roles_in, users_in}
 use Rattle.lines.specs.Lines.{Fine, bodies}

@@ -2,13 +2,12 @@
 use Rattle.std.proofs.Common.{◌≡◌, ℕ, suc, ◌<◌, ◌≤◌, Bool, not, ◌&&◌, ◌||◌, T, eqb, List, [], ◌∷◌, ◌++◌, length, refl, inl, inr, ⊎_elim, arith, eqb→eq}
 use mathlib.Core.Path.{subst⁻¹}
 use Rattle.std.proofs.lemmas.Bool.{cases_lt}
-use Rattle.policy.specs.Membership.{User, Role, Permission, IsUser, State, Edges}
-use Rattle.policy.specs.Rules.{AssignRule, RevokeRule, aatu, aar, Policy, Nth}
-use Rattle.policy.specs.Rules.{Regime as RegimeMeant}
-use Rattle.policy.specs.Requirements.{Requirement}
-use Rattle.policy.specs.Tests.{listed}
-use Rattle.policy.specs.Granting.{Apart, Holders}
-use Rattle.policy.proofs.Tests.{either, first, second}
+use Rattle.meaning.specs.Membership.{User, Role, Permission, IsUser, State, Edges}
+use Rattle.meaning.specs.Rules.{AssignRule, RevokeRule, aatu, aar, Policy, Regime as RegimeMeant}
+use Rattle.meaning.specs.Lists.{Nth, listed, Apart}
+use Rattle.meaning.specs.Requirements.{Requirement}
+use Rattle.meaning.specs.Rows.{Holders}
+use Rattle.meaning.proofs.Tests.{either, first, second}
 use Rattle.book.specs.Book.{Book, Entry, pairs, gifts, edges, trusts, assigns, revokes, requires, put, Took, plus, minus, with_state, with_policy, with_requirements, with_edges, with_gives, with_trusted, with_assigns, with_revokes}
 use Rattle.book.specs.Grounds.{NoRow, AllTrusted}
 use Rattle.book.specs.Orderly.{Orderly, NoCircle, Said, Once, RuleSaid, RevokeSaid}

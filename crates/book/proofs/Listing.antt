@@ -1,6 +1,6 @@
 -- Lists in which no entry stands twice, with one more at their end and with one taken out.
 use Rattle.std.proofs.Common.{◌≡◌, ℕ, suc, ◌<◌, ◌⊎◌, List, [], ◌∷◌, ◌++◌, length, sym, refl, ap, ◌∙◌, subst, inl, inr, arith}
-use Rattle.policy.specs.Rules.{Nth, first, later}
+use Rattle.meaning.specs.Lists.{Nth, first, later}
 use Rattle.book.specs.Book.{Without, here, there}
 use Rattle.book.specs.Orderly.{Once}
 

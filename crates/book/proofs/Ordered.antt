@@ -1,11 +1,10 @@
 -- An orderly book stays so with other assignments, where they are in range and few enough users have a row.
 use Rattle.std.proofs.Common.{ℕ, ◌<◌, not, ◌&&◌, ◌||◌, T, List, [], ◌∷◌, ⊎_elim}
 use mathlib.Core.Path.{subst⁻¹}
-use Rattle.policy.specs.Membership.{User, Role, IsUser, State}
-use Rattle.policy.specs.Bounds.{Holder}
-use Rattle.policy.specs.Runs.{pair}
-use Rattle.policy.specs.Granting.{Holders, FreeRow}
-use Rattle.policy.proofs.Tests.{either, first, is_it}
+use Rattle.meaning.specs.Membership.{User, Role, IsUser, State}
+use Rattle.meaning.specs.Rows.{Holder, Holders, FreeRow}
+use Rattle.meaning.specs.Runs.{pair}
+use Rattle.meaning.proofs.Tests.{either, first, is_it}
 use Rattle.book.specs.Book.{Book, with_state}
 use Rattle.book.specs.Orderly.{Orderly}
 use Rattle.book.proofs.Rowed.{FewRows, few_after}

@@ -3,11 +3,10 @@ use Rattle.std.proofs.Common.{◌≡◌, ℕ, suc, ◌<◌, ◌≤◌, not, T, e
 use mathlib.Core.Path.{subst⁻¹}
 use lib.Dec.{eqb_refl}
 use Rattle.std.proofs.lemmas.Bool.{cases_eq, cases_lt}
-use Rattle.policy.specs.Tests.{listed}
-use Rattle.policy.specs.Membership.{User, State}
-use Rattle.policy.specs.Bounds.{Holder}
-use Rattle.policy.specs.Granting.{Apart, Holders, FreeRow}
-use Rattle.policy.proofs.Tests.{either, or_left, or_right, clash, deny}
+use Rattle.meaning.specs.Lists.{listed, Apart}
+use Rattle.meaning.specs.Membership.{User, State}
+use Rattle.meaning.specs.Rows.{Holder, Holders, FreeRow}
+use Rattle.meaning.proofs.Tests.{either, or_left, or_right, clash, deny}
 
 -- at most 100 users have a row
 abbrev pub FewRows : State → Type 0

@@ -1,9 +1,9 @@
 -- Edges that close no circle, with some more from one role, and with some less.
 use Rattle.std.proofs.Common.{ℕ, ◌&&◌, T, eqb, ◌⊎◌, List, [], ◌∷◌, inl, inr, subst, ⊎_elim, eqb→eq}
 use mathlib.Core.Path.{subst⁻¹}
-use Rattle.policy.specs.Membership.{Role, Edges, Senior, same, above}
-use Rattle.policy.specs.Tests.{listed}
-use Rattle.policy.proofs.Tests.{either, first, second}
+use Rattle.meaning.specs.Membership.{Role, Edges, Senior, same, above}
+use Rattle.meaning.specs.Lists.{listed}
+use Rattle.meaning.proofs.Tests.{either, first, second}
 use Rattle.book.specs.Book.{plus}
 use Rattle.book.specs.Grounds.{Some}
 use Rattle.book.specs.Orderly.{NoCircle}

@@ -1,12 +1,11 @@
 -- How many users are trusted once a line has named some more.
 use Rattle.std.proofs.Common.{◌≡◌, ◌+◌, ◌<◌, ◌≤◌, ◌||◌, T, eqb, List, [], ◌∷◌, length, refl, ⊎_elim, arith}
 use Rattle.std.proofs.lemmas.Bool.{cases_lt}
-use Rattle.policy.specs.Membership.{User}
-use Rattle.policy.specs.Rules.{Policy}
-use Rattle.policy.specs.Tests.{listed}
-use Rattle.policy.specs.Granting.{Apart}
-use Rattle.policy.proofs.Tests.{either, or_left, or_right, clash, deny}
-use Rattle.policy.proofs.Turns.{few}
+use Rattle.meaning.specs.Membership.{User}
+use Rattle.meaning.specs.Rules.{Policy}
+use Rattle.meaning.specs.Lists.{listed, Apart}
+use Rattle.meaning.proofs.Tests.{either, or_left, or_right, clash, deny}
+use Rattle.theory.proofs.Turns.{few}
 use Rattle.book.specs.Book.{with_trusted}
 use Rattle.book.specs.Grounds.{AllTrusted, Crowded}
 

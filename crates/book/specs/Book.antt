@@ -1,9 +1,9 @@
 -- The book: a plain board in the words of the meaning, and what an officer puts in or takes out.
 use Rattle.std.specs.Prelude.{◌≡◌, Bool, false, not, ◌&&◌, ◌||◌, List, [], ◌∷◌, ◌++◌, ◌==◌}
-use Rattle.policy.specs.Membership.{User, Role, Permission, State, Edges}
-use Rattle.policy.specs.Rules.{AssignRule, RevokeRule, Policy, Regime, aatu}
-use Rattle.policy.specs.Requirements.{Requirement}
-use Rattle.policy.specs.Tests.{listed}
+use Rattle.meaning.specs.Membership.{User, Role, Permission, State, Edges}
+use Rattle.meaning.specs.Rules.{AssignRule, RevokeRule, Policy, Regime, aatu}
+use Rattle.meaning.specs.Requirements.{Requirement}
+use Rattle.meaning.specs.Lists.{listed}
 
 -- all that a board says; equal boards have equal books
 pub record Book : Type 0 where

@@ -1,11 +1,11 @@
 -- The calls of a story, when each is refused and with which number and line, and what it makes where it is not.
 use Rattle.std.specs.Prelude.{◌≡◌, ℕ, suc, ◌<◌, ◌≤◌, true, cond, not, ◌&&◌, ◌||◌, T, ◌⊎◌, List, [], ◌∷◌, ◌++◌, length, ◌==◌, ◌≢◌, nat_le}
-use Rattle.policy.specs.Measures.{users, roles}
-use Rattle.policy.specs.Membership.{User, Role}
-use Rattle.policy.specs.Rules.{MayAdd, MayRemove}
-use Rattle.policy.specs.Runs.{pair}
-use Rattle.policy.specs.Terms.{regime_of}
-use Rattle.policy.specs.declared.terms.Regime.{Regime}
+use Rattle.meaning.specs.Measures.{users, roles}
+use Rattle.meaning.specs.Membership.{User, Role}
+use Rattle.meaning.specs.Rules.{MayAdd, MayRemove}
+use Rattle.meaning.specs.Runs.{pair}
+use Rattle.meaning.specs.Terms.{regime_of}
+use Rattle.meaning.specs.declared.terms.Regime.{Regime}
 use Rattle.lines.specs.Languages.{Says}
 use Rattle.lines.specs.Lines.{Sentence, lines, questions}
 use Rattle.texts.specs.Answers.{Changing, changes}

@@ -1,13 +1,13 @@
 -- What refuses an entry in a book, ground by ground, and what refuses a whole book.
 use Rattle.std.specs.Prelude.{◌≡◌, ℕ, ◌+◌, ◌<◌, ◌≤◌, not, T, ◌⊎◌, List, [], ◌∷◌, length}
-use Rattle.policy.specs.Measures.{trusted_users, assign_rules, revoke_rules}
-use Rattle.policy.specs.Measures as Measures
-use Rattle.policy.specs.Membership.{User, Senior}
-use Rattle.policy.specs.Rules.{aatu, aar, Policy, Nth}
-use Rattle.policy.specs.Regimes.{AdminsAreNoTargets, AdminsAreAssigned, AssignableIsRevocable}
-use Rattle.policy.specs.Requirements.{Requirement, Stands}
-use Rattle.policy.specs.Bounds.{Holder}
-use Rattle.policy.specs.Granting.{Apart, FreeRow}
+use Rattle.meaning.specs.Measures.{trusted_users, assign_rules, revoke_rules}
+use Rattle.meaning.specs.Measures as Measures
+use Rattle.meaning.specs.Membership.{User, Senior}
+use Rattle.meaning.specs.Rules.{aatu, aar, Policy}
+use Rattle.meaning.specs.Lists.{Nth, Apart}
+use Rattle.meaning.specs.Regimes.{AdminsAreNoTargets, AdminsAreAssigned, AssignableIsRevocable}
+use Rattle.meaning.specs.Requirements.{Requirement, Stands}
+use Rattle.meaning.specs.Rows.{Holder, FreeRow}
 use Rattle.lines.specs.Entries.{repeats}
 use Rattle.book.specs.Book.{Book, Entry, pairs, gifts, edges, trusts, assigns, revokes, requires, put}
 

@@ -1,11 +1,12 @@
 -- What every board keeps, whatever is done to it: all is in range and within measure, no edges close a circle, nothing is there twice, and each rule and requirement is one that some line says.
 use Rattle.std.specs.Prelude.{◌≡◌, ℕ, ◌<◌, ◌≤◌, T, List, length}
-use Rattle.policy.specs.Measures.{roles, permissions, rows, trusted_users, assign_rules, revoke_rules}
-use Rattle.policy.specs.Measures as Measures
-use Rattle.policy.specs.Membership.{User, Role, Permission, IsUser, Edges, Senior}
-use Rattle.policy.specs.Rules.{AssignRule, RevokeRule, aatu, aar, Policy, Nth}
-use Rattle.policy.specs.Requirements.{Requirement}
-use Rattle.policy.specs.Granting.{Apart, Holders}
+use Rattle.meaning.specs.Measures.{roles, permissions, rows, trusted_users, assign_rules, revoke_rules}
+use Rattle.meaning.specs.Measures as Measures
+use Rattle.meaning.specs.Membership.{User, Role, Permission, IsUser, Edges, Senior}
+use Rattle.meaning.specs.Rules.{AssignRule, RevokeRule, aatu, aar, Policy}
+use Rattle.meaning.specs.Lists.{Nth, Apart}
+use Rattle.meaning.specs.Requirements.{Requirement}
+use Rattle.meaning.specs.Rows.{Holders}
 use Rattle.lines.specs.Lines.{Sentence, Fine}
 use Rattle.book.specs.Book.{Book, Entry, assigns, revokes, requires}
 use Rattle.book.specs.Grounds.{AllTrusted}

@@ -1,6 +1,6 @@
 -- The one table of refusals: for each call every number that can refuse it, each on its own ground; the least that applies is the answer.
 use Rattle.std.specs.Prelude.{◌≡◌, ℕ, ◌<◌, ◌≤◌, ◌⊎◌, List, [], ◌∷◌}
-use Rattle.policy.specs.Measures.{work_words, list_places}
+use Rattle.meaning.specs.Measures.{work_words, list_places}
 use Rattle.grammar.specs.declared.grounds.Ground.TheVariants.{Syntax, Range, Measure, NotSemiStatic}
 use Rattle.lines.specs.Languages.{Language, Refuses}
 use Rattle.texts.specs.declared.faults.Way.{Way}

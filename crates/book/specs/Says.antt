@@ -1,7 +1,7 @@
 -- What a written line names.
-use Rattle.policy.specs.Rules.{AssignRule, RevokeRule}
-use Rattle.policy.specs.Requirements.{always, never}
-use Rattle.policy.specs.Tests.{listed}
+use Rattle.meaning.specs.Rules.{AssignRule, RevokeRule}
+use Rattle.meaning.specs.Requirements.{always, never}
+use Rattle.meaning.specs.Lists.{listed}
 use Rattle.lines.specs.Bodies.{Row, roles_in, users_in, Assigning, condition, question_of}
 use Rattle.lines.specs.Lines.{Sentence, bodies}
 use Rattle.lines.specs.declared.keyword.Keyword.{Keyword}

@@ -1,8 +1,8 @@
 -- What delegates' calls make of a run, and what stands on a board for good.
 use Rattle.std.specs.Prelude.{◌≡◌, ℕ, List, [], ◌∷◌}
-use Rattle.policy.specs.Rules.{Nth}
-use Rattle.policy.specs.Runs.{Change, adds, removes}
-use Rattle.policy.specs.Requirements.{Requirement, Stands}
+use Rattle.meaning.specs.Lists.{Nth}
+use Rattle.meaning.specs.Runs.{Change, adds, removes}
+use Rattle.meaning.specs.Requirements.{Requirement, Stands}
 use Rattle.book.specs.Book.{Book}
 use Rattle.book.specs.Calls.{Call, adding, removing, Done}
 

@@ -6,7 +6,7 @@ mod refusal;
 use console::fill;
 use grammar::Reader;
 use lines::{Change, Extra};
-use policy::{Regime, TRUSTED_USERS};
+use meaning::{Regime, TRUSTED_USERS};
 use refusal::Refusal;
 use saving::line::write_line;
 use std::io;

@@ -2,11 +2,12 @@
 use Rattle.std.proofs.Common.{◌≡◌, ℕ, zero, suc, ◌+◌, ◌*◌, ◌/◌, ◌%◌, ◌^◌, ◌<◌, ◌≤◌, min, max, Bool, true, false, cond, ◌&&◌, ◌||◌, T, eqb, List, [], ◌∷◌, length, Some, None, Decides, Option, sym, refl, ap, ◌∙◌, subst, ap₂, ⊎_elim, pow-suc, add-one, arith}
 use Rattle.std.proofs.lemmas.List.{get_or_past}
 use Rattle.std.proofs.lemmas.Bool.Decides.{nat_tests}
-use Rattle.policy.specs.Tests.{some}
-use Rattle.policy.specs.Membership.{Row}
-use Rattle.policy.specs.Sets.{UserSet, members, holders, only, nobody, union, intersection, as_condition}
-use Rattle.policy.specs.Delegation.{member_test, meets_test}
-use Rattle.policy.proofs.Tests.{agree, both, first, second, some_at, some_gives, as_true, as_test}
+use Rattle.theory.specs.Tests.{some}
+use Rattle.meaning.specs.Membership.{Row}
+use Rattle.meaning.specs.Sets.{UserSet, members, holders, only, nobody, union, intersection, as_condition}
+use Rattle.theory.specs.Delegation.{member_test, meets_test}
+use Rattle.meaning.proofs.Tests.{agree, both, first, second, as_true, as_test}
+use Rattle.theory.proofs.Tests.{some_at, some_gives}
 use Rattle.rbac.specs.declared.sets.RoleSet.{RoleSet}
 use Rattle.rbac.specs.declared.users.User.{User as AUser}
 use Rattle.rbac.specs.Roles.{roles_of}

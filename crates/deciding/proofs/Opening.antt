@@ -5,10 +5,11 @@ use Rattle.std.specs.Option.{is_some}
 use Rattle.std.proofs.lemmas.Bool.{both_ways}
 use Rattle.words.specs.Words.{bit, bits}
 use Rattle.steps.specs.Steps.{Leap}
-use Rattle.policy.specs.Tests.{some}
-use Rattle.policy.specs.Rules.{Policy, AssignRule}
-use Rattle.policy.specs.Delegation.{member_test, meets_test, row_at, rule_of, slot_of, role_of}
-use Rattle.policy.proofs.Tests.{some_at, some_gives, as_true, as_test, as_false, deny}
+use Rattle.theory.specs.Tests.{some}
+use Rattle.meaning.specs.Rules.{Policy, AssignRule}
+use Rattle.theory.specs.Delegation.{member_test, meets_test, row_at, rule_of, slot_of, role_of}
+use Rattle.theory.proofs.Tests.{some_at, some_gives}
+use Rattle.meaning.proofs.Tests.{as_true, as_test, as_false, deny}
 use Rattle.rbac.specs.declared.sets.RoleSet.{RoleSet}
 use Rattle.deciding.specs.declared.plan.Slot.{Slot}
 use Rattle.rbac.specs.Roles.{roles_of}
@@ -154,7 +155,7 @@ module _ (p : Policy) (slots : List Slot) (seniors : List RoleSet) (ws : List �
       leap_here = record { onward = omega arith; idle = λ j a b. absurd (omega arith) }
 
       same_rule : (j : ℕ) → j / 8512 ≡ k → rule_of p j ≡ rule
-      same_rule j e = ap (λ i. get_or p.assigns i Rattle.policy.specs.Delegation.no_rule) e ∙ is
+      same_rule j e = ap (λ i. get_or p.assigns i Rattle.theory.specs.Delegation.no_rule) e ∙ is
 
       -- a fact of this slot, by the set of its roles
       there_is : (j : ℕ) → slot_of j ≡ slot_of n → bits ws (j % 8512) ≡ roles_of there (role_of j)

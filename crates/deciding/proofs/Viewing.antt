@@ -1,8 +1,8 @@
 -- The tables' entries as the rules of the policy.
 use Rattle.std.proofs.Common.{◌≡◌, ℕ, zero, suc, ◌<◌, ◌≤◌, List, [], ◌∷◌, map, length, get_or, refl, ap, not-suc-le-zero, arith}
-use Rattle.policy.specs.Rules.{Nth}
-use Rattle.policy.specs.Delegation.{no_rule}
-use Rattle.policy.proofs.Numbered.{nth_at}
+use Rattle.meaning.specs.Lists.{Nth}
+use Rattle.theory.specs.Delegation.{no_rule}
+use Rattle.meaning.proofs.Numbered.{nth_at}
 use Rattle.tables.specs.declared.entries.AssignEntry.{AssignEntry}
 use Rattle.tables.specs.declared.tables.Tables.{Tables}
 use Rattle.bounded.specs.Entries.{entries}

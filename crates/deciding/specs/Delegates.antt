@@ -2,12 +2,13 @@
 use Rattle.std.specs.Prelude.{◌≡◌, ℕ, ◌*◌, ◌%◌, ◌<◌, Bool, true, false, not, ◌&&◌, List, length, Option, MatchOption}
 use Rattle.std.proofs.Common.{arith}
 use Rattle.steps.specs.Steps.{System, Facts, Lawful}
-use Rattle.policy.specs.Measures.{list_places}
-use Rattle.policy.specs.Membership.{Role}
-use Rattle.policy.specs.Rules.{Policy, Nth}
-use Rattle.policy.specs.Runs.{Change, adds, removes}
-use Rattle.policy.specs.Delegation.{member_test, row_at, rule_of, number_of, slot_of, role_of}
-use Rattle.policy.proofs.Opens.{opened, opens_grow}
+use Rattle.meaning.specs.Measures.{list_places}
+use Rattle.meaning.specs.Membership.{Role}
+use Rattle.meaning.specs.Rules.{Policy}
+use Rattle.meaning.specs.Lists.{Nth}
+use Rattle.meaning.specs.Runs.{Change, adds, removes}
+use Rattle.theory.specs.Delegation.{member_test, row_at, rule_of, number_of, slot_of, role_of}
+use Rattle.theory.proofs.Opens.{opened, opens_grow}
 use Rattle.rbac.specs.declared.sets.RoleSet.{RoleSet}
 use Rattle.tables.specs.declared.entries.AssignEntry.{AssignEntry}
 use Rattle.deciding.specs.declared.plan.Slot.{Slot}

@@ -1,8 +1,8 @@
 -- Sets and conditions worked out with masks: sets of roles that are kept for each role and each permission.
 use Rattle.std.specs.Prelude.{ℕ, ◌+◌, ◌*◌, ◌/◌, ◌%◌, min, max, Bool, true, false, cond, ◌&&◌, ◌||◌, List, Some, None, Option, ◌==◌, slice_index_or}
-use Rattle.policy.specs.Membership.{Role, Row}
-use Rattle.policy.specs.Sets.{UserSet, members, holders, only, nobody, union, intersection}
-use Rattle.policy.specs.Delegation.{member_test}
+use Rattle.meaning.specs.Membership.{Role, Row}
+use Rattle.meaning.specs.Sets.{UserSet, members, holders, only, nobody, union, intersection}
+use Rattle.theory.specs.Delegation.{member_test}
 use Rattle.rbac.specs.declared.sets.RoleSet.{RoleSet}
 use Rattle.rbac.specs.declared.users.User.{User as AUser}
 use Rattle.rbac.specs.Roles.{roles_of}

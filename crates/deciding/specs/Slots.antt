@@ -1,6 +1,6 @@
 -- The slots of a plan.
 use Rattle.std.specs.Prelude.{ℕ, false, List, slice_index_or}
-use Rattle.policy.specs.Membership.{User}
+use Rattle.meaning.specs.Membership.{User}
 use Rattle.bounded.specs.Entries.{entries}
 use Rattle.deciding.specs.declared.plan.Slot.{Slot}
 use Rattle.deciding.specs.declared.plan.Plan.{Plan}

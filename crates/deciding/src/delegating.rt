@@ -2,9 +2,9 @@
 ghost use Rattle.std.specs.Prelude.{◌≡◌, suc, ◌*◌, ◌/◌, ◌%◌, ◌<◌, ◌≤◌, false, length, slice_index_or};
 ghost use Rattle.words.specs.Words.{bits};
 ghost use Rattle.steps.specs.Steps.{Leap};
-ghost use Rattle.policy.specs.Measures.{assign_rules, list_places};
-ghost use Rattle.policy.specs.Rules.{Nth};
-ghost use Rattle.policy.specs.Delegation.{no_rule};
+ghost use Rattle.meaning.specs.Measures.{assign_rules, list_places};
+ghost use Rattle.meaning.specs.Lists.{Nth};
+ghost use Rattle.theory.specs.Delegation.{no_rule};
 ghost use Rattle.bounded.specs.Entries.{entries};
 ghost use Rattle.tables.specs.View.{policy_of, assign_of};
 ghost use Rattle.deciding.specs.Slots.{slots_of};
@@ -13,7 +13,7 @@ ghost use Rattle.deciding.specs.Delegates.{delegates, delegates_lawful, may_act,
 use crate::delegation::Delegation;
 use crate::runs::RunStep;
 use crate::sets::{condition, member};
-use policy::{LIST_PLACES, ROLES};
+use meaning::{LIST_PLACES, ROLES};
 use rbac::{Role, RoleSet};
 use steps::StepSystem;
 use tables::{AssignEntry, Tables};

@@ -1,8 +1,8 @@
 // Seniority and permissions as sets of roles, worked out once.
 ghost use Rattle.std.specs.Prelude.{◌≡◌, length};
-ghost use Rattle.policy.specs.Measures.{roles, permissions};
+ghost use Rattle.meaning.specs.Measures.{roles, permissions};
 
-use policy::{PERMISSIONS, ROLES};
+use meaning::{PERMISSIONS, ROLES};
 use rbac::RoleSet;
 
 // For each role those senior to it, itself among them, and for each permission those whose members have it.

@@ -1,7 +1,7 @@
 // The users that a question looks at.
 use crate::masks::Masks;
 use bounded::Bounded;
-use policy::TRACKED_USERS;
+use meaning::TRACKED_USERS;
 use rbac::{RoleSet, User};
 
 // One user, with the roles assigned now, and whether the user may act.

@@ -1,6 +1,6 @@
 // Sets and conditions worked out on a stack of bits, the top lowest. One word holds the stack of the largest set, so no table is filled for it.
 ghost use Rattle.std.specs.Prelude.{◌≡◌, ◌^◌, ◌<◌, ◌≤◌, true, length, Some, slice_index_or};
-ghost use Rattle.policy.specs.Delegation.{member_test, meets_test};
+ghost use Rattle.theory.specs.Delegation.{member_test, meets_test};
 ghost use Rattle.rbac.specs.Roles.{roles_of};
 ghost use Rattle.hierarchy.specs.Edges.{no_roles};
 ghost use Rattle.trees.specs.Trees.{balanced, decode};

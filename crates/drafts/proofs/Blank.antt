@@ -1,13 +1,13 @@
 -- A draft with a regime and nothing else.
 use Rattle.std.proofs.Common.{◌≡◌, ℕ, false, List, [], ◌∷◌, map, length, refl, ap, ◌∙◌, arith}
 use mathlib.Core.Path.{subst⁻¹}
-use Rattle.policy.specs.Membership.{User, State}
-use Rattle.policy.specs.Rules.{aatu, aar, Policy, Nth}
-use Rattle.policy.specs.Rules.{Regime as RegimeMeant}
-use Rattle.policy.specs.Requirements.{Requirement}
-use Rattle.policy.specs.Granting.{Holders}
-use Rattle.policy.specs.Terms.{regime_of}
-use Rattle.policy.specs.declared.terms.Regime.{Regime}
+use Rattle.meaning.specs.Membership.{User, State}
+use Rattle.meaning.specs.Rules.{aatu, aar, Policy, Regime as RegimeMeant}
+use Rattle.meaning.specs.Lists.{Nth}
+use Rattle.meaning.specs.Requirements.{Requirement}
+use Rattle.meaning.specs.Rows.{Holders}
+use Rattle.meaning.specs.Terms.{regime_of}
+use Rattle.meaning.specs.declared.terms.Regime.{Regime}
 use Rattle.lines.specs.Entries.{repeats}
 use Rattle.lines.specs.Lists.{number_of}
 use Rattle.tables.specs.declared.tables.Tables.{Tables}

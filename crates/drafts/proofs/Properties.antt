@@ -1,7 +1,7 @@
 -- Under aatu the properties of aar ask for nothing.
 use Rattle.std.proofs.Common.{◌≡◌, ap, ◌∙◌}
-use Rattle.policy.specs.Terms.{regime_of}
-use Rattle.policy.specs.declared.terms.Regime.TheVariants.{Aatu}
+use Rattle.meaning.specs.Terms.{regime_of}
+use Rattle.meaning.specs.declared.terms.Regime.TheVariants.{Aatu}
 use Rattle.tables.specs.declared.tables.Tables.{Tables}
 use Rattle.tables.proofs.Viewing.{regime_is}
 use Rattle.drafts.specs.Weighed.{KeepsProperties}

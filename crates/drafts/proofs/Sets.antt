@@ -1,6 +1,6 @@
 -- The set that nodes say.
 use Rattle.std.proofs.Common.{◌≡◌, ap, ◌∙◌}
-use Rattle.policy.specs.Sets.{UserSet}
+use Rattle.meaning.specs.Sets.{UserSet}
 use Rattle.trees.specs.Reading.{Nodes}
 use Rattle.trees.specs.Reading.{listed, postfix}
 use Rattle.trees.specs.Trees.{decode}

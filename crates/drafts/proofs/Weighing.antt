@@ -1,10 +1,10 @@
 -- Tables in good order that keep the regime's properties are sound.
 use Rattle.std.proofs.Common.{◌≡◌, ℕ, Bool, false, T, List, [], ◌∷◌, Decides, sym, refl, ◌∙◌, subst}
 use Rattle.std.proofs.lemmas.Bool.{both_ways}
-use Rattle.policy.specs.Membership.{User}
-use Rattle.policy.specs.Rules.{RevokeRule, aatu, aar, Policy, Nth, first}
-use Rattle.policy.specs.Rules.{Regime as RegimeMeant}
-use Rattle.policy.proofs.Tests.{deny}
+use Rattle.meaning.specs.Membership.{User}
+use Rattle.meaning.specs.Rules.{RevokeRule, aatu, aar, Policy, Regime as RegimeMeant}
+use Rattle.meaning.specs.Lists.{Nth, first}
+use Rattle.meaning.proofs.Tests.{deny}
 use Rattle.tables.specs.declared.tables.Tables.{Tables}
 use Rattle.tables.specs.View.{policy_of, state_of}
 use Rattle.soundness.specs.Valid.{Sound}

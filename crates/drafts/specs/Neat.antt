@@ -1,7 +1,7 @@
 -- Tables in good order: what every board's tables keep, whatever is put in or taken out, before they are weighed as a whole.
 use Rattle.std.specs.Prelude.{◌≡◌, ℕ, false, map}
-use Rattle.policy.specs.Rules.{Nth}
-use Rattle.policy.specs.Sets.{UserSet}
+use Rattle.meaning.specs.Lists.{Nth}
+use Rattle.meaning.specs.Sets.{UserSet}
 use Rattle.trees.specs.Reading.{Nodes}
 use Rattle.trees.specs.Reading.{listed, postfix}
 use Rattle.lines.specs.Entries.{repeats}

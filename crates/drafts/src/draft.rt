@@ -1,14 +1,14 @@
 // A draft of a board: nothing in it is out of order, but it is not yet weighed as a whole.
 ghost use Rattle.std.specs.Prelude.{◌≡◌};
-ghost use Rattle.policy.specs.Rules.{aar};
-ghost use Rattle.policy.specs.Terms.{regime_of};
+ghost use Rattle.meaning.specs.Rules.{aar};
+ghost use Rattle.meaning.specs.Terms.{regime_of};
 ghost use Rattle.book.specs.Book.{blank as empty_book};
 ghost use Rattle.drafts.specs.View.{book_of};
 ghost use Rattle.drafts.specs.Neat.{Neat};
 ghost use Rattle.drafts.specs.Weighed.{Kept, Weighs};
 
 use book::Cause;
-use policy::Regime;
+use meaning::Regime;
 use soundness::{Valid, admins_are_assigned, admins_are_no_targets, assignable_is_revocable};
 use tables::Tables;
 

@@ -2,7 +2,7 @@
 use deciding::RunStep;
 use hierarchy::Edge;
 use lines::Extra;
-use policy::{LIST_PLACES, Regime, WORK_WORDS};
+use meaning::{LIST_PLACES, Regime, WORK_WORDS};
 use questions::Inquiry;
 use rbac::{Role, RoleSet, User};
 use soundness::Valid;

@@ -1,7 +1,7 @@
 // Each function asks its boards their questions; the run's length is given where every run that shows the verdict has it.
 use crate::boards::*;
 use deciding::RunStep;
-use policy::{LIST_PLACES, Regime};
+use meaning::{LIST_PLACES, Regime};
 use rbac::{Role, User};
 use std::process::Abort;
 use std::test::Fail;

@@ -1,8 +1,8 @@
 -- The first two lines of a board text, and the way on from them.
 use Rattle.std.proofs.Common.{ℕ, ◌+◌, ◌≤◌, List, ◌++◌, length, Ok, Err, ap, ◌∙◌, arith, lit<, length-append}
 use mathlib.Core.Path.{subst⁻¹}
-use Rattle.policy.specs.declared.terms.Regime.{Regime}
-use Rattle.policy.specs.Terms.{regime_of}
+use Rattle.meaning.specs.declared.terms.Regime.{Regime}
+use Rattle.meaning.specs.Terms.{regime_of}
 use Rattle.texts.specs.declared.faults.Fault.{Fault}
 use Rattle.texts.specs.declared.faults.Fault.TheVariants.{TooLong, Mark, InLine}
 use Rattle.texts.specs.Board.{mark_line, regime_line}

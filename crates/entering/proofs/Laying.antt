@@ -1,7 +1,7 @@
 -- Tables in good order are laid out as they should be, even where only the contrary is denied.
 use Rattle.std.proofs.Common.{◌≡◌, Bool, true, false, Option, Some, None, sym, refl, ap, ◌∙◌}
 use Rattle.std.proofs.lemmas.Bool.{both_ways}
-use Rattle.policy.specs.Sets.{UserSet}
+use Rattle.meaning.specs.Sets.{UserSet}
 use Rattle.trees.specs.Reading.{Nodes, listed, postfix}
 use Rattle.trees.specs.Trees.{decode}
 use Rattle.trees.proofs.Whole.{inverse}

@@ -2,7 +2,7 @@
 use Rattle.std.proofs.Common.{◌≡◌, ℕ, zero, suc, ◌+◌, ◌<◌, ◌⊎◌, List, [], ◌∷◌, ◌++◌, map, length, get_or, Option, Some, None, MatchOption, refl, subst, inl, inr, ⊎_elim, arith, ap, ◌∙◌, ◌≤◌, Result, Ok, Err, length-append}
 use mathlib.Core.Path.{subst⁻¹}
 use Rattle.std.specs.List.{AllWithin, HoldsAt, remove}
-use Rattle.policy.specs.Rules.{Nth, first, later}
+use Rattle.meaning.specs.Lists.{Nth, first, later}
 use Rattle.bounded.specs.declared.bounded.Bounded.{Bounded}
 use Rattle.bounded.specs.declared.lists.Full.{Full}
 use Rattle.bounded.specs.Entries.{entries, Pushed, Removed}

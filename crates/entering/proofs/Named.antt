@@ -3,9 +3,9 @@ use Rattle.std.proofs.Common.{◌≡◌, ℕ, true, List, Option, sym, refl, ap,
 use mathlib.Core.Path.{subst⁻¹}
 use borrow.Author.Tests.{clash}
 use Rattle.std.proofs.lemmas.Bool.{and_parts, and_from}
-use Rattle.policy.specs.Rules.{AssignRule, RevokeRule}
-use Rattle.policy.specs.Requirements.{always, never}
-use Rattle.policy.specs.Sets.{UserSet, members, holders, only, nobody, union, intersection, as_condition}
+use Rattle.meaning.specs.Rules.{AssignRule, RevokeRule}
+use Rattle.meaning.specs.Requirements.{always, never}
+use Rattle.meaning.specs.Sets.{UserSet, members, holders, only, nobody, union, intersection, as_condition}
 use Rattle.grammar.specs.Phrase.{meaning, in_range}
 use Rattle.grammar.specs.Phrase.{roles_alone as roles_written}
 use Rattle.rbac.specs.Roles.{roles_of}

@@ -2,8 +2,8 @@
 use Rattle.std.proofs.Common.{◌≡◌, ℕ, Bool, true, false, not, ◌||◌, T, eqb, ◌⊎◌, Decides, List, [], ◌∷◌, sym, refl, ap, ◌∙◌, subst, inl, inr, ⊎_elim, eqb→eq}
 use mathlib.Core.Path.{subst⁻¹}
 use lib.Dec.{eqb_refl}
-use Rattle.policy.specs.Tests.{listed}
-use Rattle.policy.proofs.Tests.{either, or_left, or_right, clash, as_true, as_test}
+use Rattle.meaning.specs.Lists.{listed}
+use Rattle.meaning.proofs.Tests.{either, or_left, or_right, clash, as_true, as_test}
 use Rattle.std.proofs.lemmas.Bool.{both_ways}
 use Rattle.lines.specs.Entries.{repeats}
 use Rattle.book.specs.Grounds.{Some}

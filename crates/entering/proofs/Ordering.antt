@@ -2,9 +2,9 @@
 use Rattle.std.proofs.Common.{◌≡◌, ℕ, ◌&&◌, T, eqb, Bool, Decides, true, false, List, refl, ap, ◌∙◌, subst, ⊎_elim, eqb→eq}
 use mathlib.Core.Path.{subst⁻¹}
 use Rattle.std.proofs.lemmas.Bool.{both_ways}
-use Rattle.policy.specs.Membership.{Edges, Senior, same, above, Member}
-use Rattle.policy.specs.Tests.{listed}
-use Rattle.policy.proofs.Tests.{either, or_left, first}
+use Rattle.meaning.specs.Membership.{Edges, Senior, same, above, Member}
+use Rattle.meaning.specs.Lists.{listed}
+use Rattle.meaning.proofs.Tests.{either, or_left, first}
 use Rattle.hierarchy.specs.declared.edges.Hierarchy.{Hierarchy}
 use Rattle.hierarchy.specs.Edges.{edges_of, with_edges, without_edges}
 use Rattle.tables.specs.declared.tables.Tables.{Tables}

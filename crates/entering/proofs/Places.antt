@@ -3,8 +3,8 @@ use Rattle.std.proofs.Common.{◌≡◌, ℕ, ◌+◌, Bool, true, false, ◌||�
 use mathlib.Core.Path.{subst⁻¹}
 use Rattle.std.specs.Option.{is_some}
 use Rattle.std.proofs.lemmas.Bool.{both_ways}
-use Rattle.policy.specs.Rules.{Nth}
-use Rattle.policy.proofs.Tests.{either, or_left, or_right, as_true, as_test}
+use Rattle.meaning.specs.Lists.{Nth}
+use Rattle.meaning.proofs.Tests.{either, or_left, or_right, as_true, as_test}
 use Rattle.bounded.specs.declared.lists.Full.{Full}
 use Rattle.book.specs.declared.refusal.Cause.{Cause}
 use Rattle.book.specs.declared.refusal.Cause.TheVariants as cause

@@ -1,7 +1,8 @@
 -- What other revoke rules make of the book.
 use Rattle.std.proofs.Common.{◌≡◌, ℕ, ◌+◌, ◌⊎◌, List, [], ◌∷◌, ◌++◌, map, Option, Ok, Err, Result, refl, ap}
 use Rattle.texts.specs.declared.faults.Way.TheVariants.{Add}
-use Rattle.policy.specs.Rules.{RevokeRule, Nth}
+use Rattle.meaning.specs.Rules.{RevokeRule}
+use Rattle.meaning.specs.Lists.{Nth}
 use Rattle.bounded.specs.declared.bounded.Bounded.{Bounded}
 use Rattle.bounded.specs.declared.lists.Full.{Full}
 use Rattle.bounded.specs.Entries.{entries, Pushed, Removed}

@@ -1,8 +1,8 @@
 -- What other rows make of the book.
 use Rattle.std.proofs.Common.{◌≡◌, ℕ, Bool, List, ◌⊎◌, Ok, Err, Result, sym, ap, ◌∙◌, subst}
 use mathlib.Core.Path.{subst⁻¹}
-use Rattle.policy.specs.Membership.{State}
-use Rattle.policy.specs.Tests.{listed}
+use Rattle.meaning.specs.Membership.{State}
+use Rattle.meaning.specs.Lists.{listed}
 use Rattle.tables.specs.declared.tables.Tables.{Tables}
 use Rattle.tables.specs.declared.entries.Row.{Row}
 use Rattle.tables.specs.View.{policy_of, state_of, requirements_of}

@@ -4,9 +4,9 @@ use borrow.Author.Tests.{clash}
 use denote.Enum.Bare.{sameb}
 use Rattle.std.proofs.lemmas.Bool.{cases_lt, and_parts, and_from, eqb-true, eq-eqb}
 use Rattle.words.proofs.Bits.{bit_past, same_members}
-use Rattle.policy.specs.Rules.{Condition, everybody, in_role, both, either, AssignRule, RevokeRule}
-use Rattle.policy.specs.Sets.{UserSet, members, holders, only, nobody, union, intersection, as_condition, Question}
-use Rattle.policy.specs.Requirements.{Requirement, always, never}
+use Rattle.meaning.specs.Rules.{Condition, everybody, in_role, both, either, AssignRule, RevokeRule}
+use Rattle.meaning.specs.Sets.{UserSet, members, holders, only, nobody, union, intersection, as_condition, Question}
+use Rattle.meaning.specs.Requirements.{Requirement, always, never}
 use Rattle.rbac.specs.declared.sets.RoleSet.{RoleSet}
 use Rattle.rbac.specs.Roles.{roles_of}
 use Rattle.rbac.proofs.Masks.{roles_low}

@@ -6,10 +6,10 @@ use Rattle.std.specs.List.{All, Any, list_all}
 use Rattle.std.proofs.lemmas.Bool.{both_ways, cases_lt}
 use Rattle.std.proofs.lemmas.List.{take_all, map-append, length-map}
 use Rattle.words.specs.Words.{bits}
-use Rattle.policy.specs.Membership.{User as UserNumber}
-use Rattle.policy.specs.Rules.{Policy}
-use Rattle.policy.specs.Tests.{listed}
-use Rattle.policy.proofs.Tests.{either, or_left, or_right, as_true, as_test, clash}
+use Rattle.meaning.specs.Membership.{User as UserNumber}
+use Rattle.meaning.specs.Rules.{Policy}
+use Rattle.meaning.specs.Lists.{listed}
+use Rattle.meaning.proofs.Tests.{either, or_left, or_right, as_true, as_test, clash}
 use Rattle.rbac.specs.declared.users.User.{User}
 use Rattle.bounded.specs.declared.bounded.Bounded.{Bounded}
 use Rattle.bounded.specs.Entries.{entries}

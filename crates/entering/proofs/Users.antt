@@ -6,10 +6,9 @@ use Rattle.std.specs.List.{filter, list_any, list_all}
 use Rattle.std.proofs.lemmas.Bool.{both_ways, cases_eq, cases_lt, and_parts, and_from}
 use Rattle.std.proofs.lemmas.List.{take_all, length-take-le, take_more}
 use lib.Seq.{take-append-le}
-use Rattle.policy.specs.Tests.{listed}
-use Rattle.policy.specs.Granting.{Apart}
-use Rattle.policy.proofs.Tests.{either, or_left, or_right, first, as_true, as_test, listed_either}
-use Rattle.policy.proofs.Turns.{few}
+use Rattle.meaning.specs.Lists.{listed, Apart}
+use Rattle.meaning.proofs.Tests.{either, or_left, or_right, first, as_true, as_test, listed_either}
+use Rattle.theory.proofs.Turns.{few}
 use Rattle.rbac.specs.declared.users.User.{User}
 use Rattle.lines.specs.Entries.{repeats, all_below}
 use Rattle.lines.specs.Lists.{number_of}

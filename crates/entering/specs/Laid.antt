@@ -1,6 +1,6 @@
 -- How tables are laid out, whatever they say.
 use Rattle.std.specs.Prelude.{◌≡◌, ℕ, false, map}
-use Rattle.policy.specs.Rules.{Nth}
+use Rattle.meaning.specs.Lists.{Nth}
 use Rattle.lines.specs.Entries.{repeats}
 use Rattle.lines.specs.Lists.{number_of}
 use Rattle.tables.specs.declared.entries.AssignEntry.{AssignEntry}

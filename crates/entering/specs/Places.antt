@@ -1,6 +1,6 @@
 -- Where an entry stands in a list.
 use Rattle.std.specs.Prelude.{ℕ, ◌+◌, List, Option, MatchOption}
-use Rattle.policy.specs.Rules.{Nth}
+use Rattle.meaning.specs.Lists.{Nth}
 
 -- it has the number that follows this place, or none
 abbrev pub Place : {A : Type 0} → A → List A → Option ℕ → Type 0

@@ -1,6 +1,6 @@
 -- Users that a set has, one bit for each.
 use Rattle.std.specs.Prelude.{◌≡◌, ℕ, ◌<◌, Bool, true, false}
-use Rattle.policy.specs.Measures.{users}
+use Rattle.meaning.specs.Measures.{users}
 use Rattle.rbac.specs.declared.users.User.{User}
 
 -- the user is in the set, or is a user in range who is not

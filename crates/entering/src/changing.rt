@@ -7,7 +7,7 @@ use crate::keeping::enter_in;
 use book::{Cause, Refusal};
 use drafts::Draft;
 use lines::Extra;
-use policy::{LIST_PLACES, WORK_WORDS};
+use meaning::{LIST_PLACES, WORK_WORDS};
 use texts::alone::read_change;
 
 // The draft as the change that the text says makes it, before it is weighed as a whole, where the step list and the work table that are lent have these lengths.

@@ -1,8 +1,8 @@
 ghost use Rattle.std.specs.Prelude.{◌≡◌, not, Decides};
-ghost use Rattle.policy.specs.Rules.{aatu, aar};
+ghost use Rattle.meaning.specs.Rules.{aatu, aar};
 ghost use Rattle.tables.specs.View.{policy_of};
 
-use policy::Regime;
+use meaning::Regime;
 use tables::Tables;
 
 // Whether the board is under aatu; if not, it is under aar.

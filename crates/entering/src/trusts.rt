@@ -2,7 +2,7 @@
 ghost use Rattle.std.specs.Prelude.{◌≡◌, ℕ, ◌<◌, true, false, not, ◌++◌, List, take, filter, map, MatchBool, ◌==◌};
 ghost use Rattle.std.specs.List.{list_any, list_all, All, Any};
 ghost use Rattle.words.specs.Words.{bits};
-ghost use Rattle.policy.specs.Measures.{users, trusted_users};
+ghost use Rattle.meaning.specs.Measures.{users, trusted_users};
 ghost use Rattle.lines.specs.Entries.{all_below, repeats};
 ghost use Rattle.lines.specs.Lines.{Trusts};
 ghost use Rattle.lines.specs.Lists.{number_of};
@@ -19,7 +19,7 @@ use crate::regime::is_aatu;
 use book::Cause;
 use bounded::Bounded;
 use lines::Extra;
-use policy::TRUSTED_USERS;
+use meaning::TRUSTED_USERS;
 use rbac::User;
 use tables::Tables;
 use words::has;

@@ -1,5 +1,5 @@
 // The fullest boards: 100 users with a row, 32 assign rules, and a question that names 31 other users.
-use policy::{ASSIGN_RULES, Kind, ROWS};
+use meaning::{ASSIGN_RULES, Kind, ROWS};
 use questions::Inquiry;
 use rbac::{Role, RoleSet, User};
 use soundness::Valid;

@@ -5,7 +5,7 @@ mod boards;
 
 use boards::{Order, board, question};
 use deciding::RunStep;
-use policy::{LIST_PLACES, WORK_WORDS};
+use meaning::{LIST_PLACES, WORK_WORDS};
 use std::io;
 use std::io::Read;
 use verdicts::decide;

@@ -4,7 +4,7 @@ use Rattle.grammar.specs.declared.sizes.Size.{Size}
 use Rattle.grammar.specs.declared.sizes.Mode.{Mode}
 use Rattle.grammar.specs.declared.sizes.Mode.TheVariants.{Operand, Sign, User, Comma, Another}
 use Rattle.grammar.specs.Text.{begins_digit}
-use Rattle.policy.specs.Sets.{UserSet, members, holders, only, nobody}
+use Rattle.meaning.specs.Sets.{UserSet, members, holders, only, nobody}
 use Rattle.grammar.specs.Phrase.{Kind, set, term, factor, users, Phrase, one, or, lone, and, a_role, a_permission, no_users, braces, parens, a_user, also, render, meaning, levels, Short}
 use Rattle.grammar.specs.Scan.{sized, size_of, grow, at, go, pick, leaf, step, scanned}
 use Rattle.grammar.proofs.Numbers.{number_written}

@@ -6,7 +6,7 @@ use Rattle.grammar.specs.declared.sizes.Mode.{Mode}
 use Rattle.grammar.specs.declared.sizes.Mode.TheVariants.{Operand, Sign, User, Comma, Another}
 use Rattle.grammar.specs.Text.{Read, number}
 use Rattle.grammar.specs.Phrase as P
-use Rattle.policy.specs.Sets.{UserSet, members, holders, only}
+use Rattle.meaning.specs.Sets.{UserSet, members, holders, only}
 use Rattle.grammar.specs.Phrase.{Kind, set, term, factor, users, Phrase, one, or, lone, and, no_users, braces, parens, also, render, meaning, levels, Short, Written, Ends}
 use Rattle.grammar.specs.Scan.{sized, size_of, grow, Next, go, stop, bad, at, pick, leaf, step, step_at, ok, no, runs, scanned, empty, heard, Scanned}
 use Rattle.grammar.proofs.Numbers.{number_read}

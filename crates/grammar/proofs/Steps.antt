@@ -7,7 +7,7 @@ use Rattle.grammar.specs.declared.sizes.Leaf.{Leaf}
 use Rattle.grammar.specs.declared.sizes.Mode.{Mode}
 use Rattle.grammar.specs.declared.sizes.Mode.TheVariants.{Operand, Sign, User, Comma, Another}
 use Rattle.grammar.specs.Text.{begins, Read, got, none, number}
-use Rattle.policy.specs.Sets.{UserSet, members, holders, only, nobody}
+use Rattle.meaning.specs.Sets.{UserSet, members, holders, only, nobody}
 use Rattle.grammar.specs.Scan.{sized, grow, Next, go, bad, at, pick, leaf, leaf_by, user_step, close, step_at}
 
 pub pick_take : (c : ℕ) (s s1 : List ℕ) (f : List ℕ → Next) (o : Next) → s ≡ c ∷ s1 → pick c s f o ≡ f s1

@@ -1,7 +1,7 @@
 -- What a set of users is, how it is written, and how large it is.
 use Rattle.std.specs.Prelude.{◌≡◌, ℕ, suc, ◌+◌, ◌<◌, max, Bool, true, false, ◌&&◌, List, [], ◌∷◌, ◌++◌, decimal, nat_lt}
-use Rattle.policy.specs.Sets.{UserSet, members, holders, only, nobody, union, intersection}
-use Rattle.policy.specs.Measures as measures
+use Rattle.meaning.specs.Sets.{UserSet, members, holders, only, nobody, union, intersection}
+use Rattle.meaning.specs.Measures as measures
 use Rattle.grammar.specs.Text.{begins, begins_digit}
 
 pub data Kind : Type 0 where

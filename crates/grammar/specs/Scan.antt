@@ -1,6 +1,6 @@
 -- How a set is scanned, step by step, and what the scanning tells.
 use Rattle.std.specs.Prelude.{◌≡◌, ℕ, zero, suc, ◌+◌, ◌^◌, ◌<◌, max, true, cond, ◌&&◌, List, [], ◌∷◌, length, Some, None, Option, ◌==◌, nat_lt}
-use Rattle.policy.specs.Sets.{UserSet, members, holders, only, nobody}
+use Rattle.meaning.specs.Sets.{UserSet, members, holders, only, nobody}
 use Rattle.grammar.specs.Text.{Read, got, none, number}
 use Rattle.grammar.specs.Phrase.{Kind, set, Phrase, meaning, levels, operands, in_range, static, roles_alone, Written, Ends}
 use Rattle.grammar.specs.declared.sizes.Size.{Size}

@@ -5,7 +5,7 @@ ghost use Rattle.grammar.specs.declared.sizes.Mode.TheVariants.{Operand, Sign, C
 
 use crate::reader::Reader;
 use crate::sizes::{Leaf, Mode, Size, State};
-use policy::{PERMISSIONS, ROLES, USERS};
+use meaning::{PERMISSIONS, ROLES, USERS};
 
 // What each kind of operand is, written out in full: a constant's value takes no `..`.
 const ROLE: Leaf = Leaf {

@@ -8,7 +8,7 @@ use Rattle.rbac.specs.declared.sets.RoleSet.{RoleSet}
 use Rattle.rbac.specs.Roles.{roles_of, no_role}
 use Rattle.lines.specs.declared.parts.Names.{Names}
 use Rattle.lines.specs.Entries.{all_below, repeats}
-use Rattle.policy.specs.Tests.{listed as named}
+use Rattle.meaning.specs.Lists.{listed as named}
 use Rattle.lines.specs.Lists.{Noted}
 
 or_assoc : (a b c : Bool) → (a || (b || c)) ≡ ((a || b) || c)

@@ -1,8 +1,8 @@
 -- What stands in a line behind its word, by shape.
 use Rattle.std.specs.Prelude.{◌≡◌, ℕ, ◌+◌, ◌<◌, max, Bool, true, ◌&&◌, ◌||◌, List, ◌∷◌, ◌++◌, codes, decimal, nat_le, nat_lt}
-use Rattle.policy.specs.Measures as measures
-use Rattle.policy.specs.Rules.{Condition, everybody}
-use Rattle.policy.specs.Sets.{Question, as_condition}
+use Rattle.meaning.specs.Measures as measures
+use Rattle.meaning.specs.Rules.{Condition, everybody}
+use Rattle.meaning.specs.Sets.{Question, as_condition}
 use Rattle.grammar.specs.Phrase.{set, Phrase, render, meaning, levels, operands, in_range, static, roles_alone, Short}
 use Rattle.lines.specs.Entries.{entries, AllShort, all_below}
 use Rattle.lines.specs.Languages.{Language}

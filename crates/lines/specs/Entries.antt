@@ -1,6 +1,6 @@
 -- Lists of numbers in a line: how they are written, and what they name.
 use Rattle.std.specs.Prelude.{ℕ, ◌<◌, Bool, true, false, cond, ◌&&◌, ◌||◌, List, [], ◌∷◌, ◌++◌, decimal, ◌==◌, nat_lt}
-use Rattle.policy.specs.Tests.{listed as named}
+use Rattle.meaning.specs.Lists.{listed as named}
 use Rattle.grammar.specs.Text.{Read, none, number}
 
 -- each entry is a blank, a letter and a number

@@ -1,6 +1,6 @@
 -- Lines, questions and changes as they are written, and what they say.
 use Rattle.std.specs.Prelude.{◌≡◌, ℕ, Bool, true, false, List, [], ◌++◌, map, length, take, Some, None, Ok, Err, codes, Option, Result}
-use Rattle.policy.specs.Measures as measures
+use Rattle.meaning.specs.Measures as measures
 use Rattle.grammar.specs.Phrase.{meaning}
 use Rattle.grammar.specs.declared.grounds.Ground.{Ground}
 use Rattle.words.specs.Words.{bits}
@@ -17,7 +17,7 @@ use Rattle.lines.specs.declared.change.Extra.{Extra}
 use Rattle.lines.specs.declared.keyword.Keyword.{Keyword}
 use Rattle.lines.specs.declared.keyword.Keyword.TheVariants.{Ua, Pa, Rh, Trust, Assign, Revoke, Always, Never, Possible, Necessary}
 use Rattle.lines.specs.Entries.{repeats}
-use Rattle.policy.specs.Tests.{listed as named}
+use Rattle.meaning.specs.Lists.{listed as named}
 use Rattle.lines.specs.Languages.{Language, Least, Unrefused, Told}
 use Rattle.lines.specs.Lists.{number_of}
 use Rattle.lines.specs.Bodies.{Row, roles_in, rows, Users, users_in, trusts, Clause, always_true, in_set, Assigning, assigns, Sides, sides}

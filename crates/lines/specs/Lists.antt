@@ -9,7 +9,7 @@ use Rattle.rbac.specs.declared.users.User.{User}
 use Rattle.lines.specs.declared.parts.Names.{Names}
 use Rattle.lines.specs.declared.change.Extra.{Extra}
 use Rattle.lines.specs.Entries.{entries, AllShort, all_below, repeats}
-use Rattle.policy.specs.Tests.{listed as named}
+use Rattle.meaning.specs.Lists.{listed as named}
 
 -- the roles of a list that are all in range: the set of them, and whether one is named twice
 pub record Named (v : Names) (ns : List ℕ) : Type 0 where

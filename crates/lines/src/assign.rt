@@ -11,7 +11,7 @@ use crate::parts::{Assigned, LEVELS};
 use crate::sides::judge;
 use grammar::scan::scan;
 use grammar::{Ground, Reader, Size};
-use policy::{CONDITION_OPERANDS, ROLES};
+use meaning::{CONDITION_OPERANDS, ROLES};
 use rbac::Role;
 use trees::Nodes;
 use trees::read::side;

@@ -1,5 +1,5 @@
 use bounded::Bounded;
-use policy::TRUSTED_USERS;
+use meaning::TRUSTED_USERS;
 use rbac::{Permission, Role, RoleSet, User};
 use trees::Nodes;
 

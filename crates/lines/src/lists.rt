@@ -1,7 +1,7 @@
 // Lists of roles and of users that end a line.
 ghost use Rattle.std.specs.Prelude.{◌≡◌, ℕ, ◌+◌, ◌<◌, ◌≤◌, min, Bool, false, ◌&&◌, List, [], ◌∷◌, ◌++◌, length, take, Option, Some, None, MatchOption};
 ghost use Rattle.bounded.specs.Entries.{entries as kept};
-ghost use Rattle.policy.specs.Measures.{users as all_users};
+ghost use Rattle.meaning.specs.Measures.{users as all_users};
 ghost use Rattle.grammar.specs.Text.{rest, taken};
 ghost use Rattle.trees.specs.Reading.{Nodes as Tree, listed};
 ghost use Rattle.lines.specs.Entries.{entry_at};

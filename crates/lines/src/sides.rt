@@ -10,7 +10,7 @@ use crate::change::{Change, Extra};
 use crate::parts::{LEVELS, Sizes};
 use grammar::scan::scan;
 use grammar::{Ground, Reader};
-use policy::QUESTION_OPERANDS;
+use meaning::QUESTION_OPERANDS;
 use trees::read::side;
 
 // Measures the two sets without building them, whatever their depth.

@@ -3,11 +3,12 @@ use Rattle.std.proofs.Common.{◌≡◌, ℕ, ◌<◌, ◌≤◌, Bool, true, fa
 use mathlib.Core.Path.{subst⁻¹}
 use Rattle.std.specs.List.{list_any}
 use Rattle.std.proofs.lemmas.Bool.{both_ways, cases_lt}
-use Rattle.policy.specs.Membership.{IsUser, Row, Member}
-use Rattle.policy.specs.Rules.{Condition, Meets, AssignRule, RevokeRule, Nth, MayAdd, MayRemove}
-use Rattle.policy.specs.Delegation.{TellsSenior, member_test, meets_test}
-use Rattle.policy.proofs.Tests.{first, second, both, as_test, as_denied, clash}
-use Rattle.policy.proofs.Delegate.{member_test_lem, meets_yes, yes_meets}
+use Rattle.meaning.specs.Membership.{IsUser, Row, Member}
+use Rattle.meaning.specs.Rules.{Condition, Meets, AssignRule, RevokeRule, MayAdd, MayRemove}
+use Rattle.meaning.specs.Lists.{Nth}
+use Rattle.theory.specs.Delegation.{TellsSenior, member_test, meets_test}
+use Rattle.meaning.proofs.Tests.{first, second, both, as_test, as_denied, clash}
+use Rattle.theory.proofs.Delegate.{member_test_lem, meets_yes, yes_meets}
 use Rattle.rbac.specs.declared.sets.RoleSet.{RoleSet}
 use Rattle.rbac.specs.Roles.{roles_of}
 use Rattle.rbac.proofs.Masks.{roles_past}

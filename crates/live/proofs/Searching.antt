@@ -3,9 +3,9 @@ use Rattle.std.proofs.Common.{◌≡◌, ℕ, suc, ◌<◌, Bool, true, false, T
 use mathlib.Core.Path.{subst⁻¹}
 use Rattle.std.specs.List.{AllWithin, HoldsAt, list_any}
 use Rattle.std.proofs.lemmas.List.Folds.{list_any_at}
-use Rattle.policy.specs.Rules.{Nth, first, later}
-use Rattle.policy.proofs.Numbered.{at_nth, nth_at}
-use Rattle.policy.proofs.Tests.{either, as_true}
+use Rattle.meaning.specs.Lists.{Nth, first, later}
+use Rattle.meaning.proofs.Numbered.{at_nth, nth_at}
+use Rattle.meaning.proofs.Tests.{either, as_true}
 
 module _ {A : Type 0} (p : A → Bool) where
   pub any_nth : (xs : List A) → T (list_any p xs) → (k : ℕ) × (x : A) × Nth k x xs × T (p x)

@@ -1,8 +1,8 @@
 -- What a rule lets an actor with one row do to a user with another, by a test of seniority.
 use Rattle.std.specs.Prelude.{Bool, ◌&&◌}
-use Rattle.policy.specs.Membership.{Role, Row}
-use Rattle.policy.specs.Rules.{AssignRule, RevokeRule}
-use Rattle.policy.specs.Delegation.{member_test, meets_test}
+use Rattle.meaning.specs.Membership.{Role, Row}
+use Rattle.meaning.specs.Rules.{AssignRule, RevokeRule}
+use Rattle.theory.specs.Delegation.{member_test, meets_test}
 
 -- by this rule the actor may give the role to the user
 abbrev pub adds_test : (Role → Role → Bool) → Row → Row → Role → AssignRule → Bool

@@ -1,8 +1,8 @@
 // Whether some rule lets an actor add or remove a role.
 ghost use Rattle.std.specs.Prelude.{◌≡◌, ℕ, ◌<◌, true, Decides};
 ghost use Rattle.std.specs.List.{list_any};
-ghost use Rattle.policy.specs.Measures.{users};
-ghost use Rattle.policy.specs.Rules.{MayAdd, MayRemove};
+ghost use Rattle.meaning.specs.Measures.{users};
+ghost use Rattle.meaning.specs.Rules.{MayAdd, MayRemove};
 ghost use Rattle.rbac.specs.Roles.{roles_of};
 ghost use Rattle.tables.specs.View.{state_of, policy_of, assign_of, revoke_of};
 ghost use Rattle.deciding.specs.Masked.{down_of, whole_needs};

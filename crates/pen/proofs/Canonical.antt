@@ -1,7 +1,7 @@
 -- The canonical text says its set, with the fewest levels, and is read back.
 use Rattle.std.proofs.Common.{◌≡◌, ℕ, suc, ◌≤◌, true, List, [], ◌∷◌, ◌++◌, sym, refl, ap, ◌∙◌, subst, append_assoc, arith, ltb-true}
 use Rattle.std.proofs.lemmas.Bool.{and_parts}
-use Rattle.policy.specs.Sets.{UserSet, members, holders, only, nobody, union, intersection}
+use Rattle.meaning.specs.Sets.{UserSet, members, holders, only, nobody, union, intersection}
 use Rattle.grammar.specs.Phrase.{Kind, set, term, factor, users, Phrase, one, or, lone, and, a_role, a_permission, no_users, braces, parens, a_user, also, meaning, levels, in_range, Short}
 use Rattle.trees.specs.declared.nodes.Node.{Node}
 use Rattle.trees.specs.declared.nodes.Node.TheVariants.{Role, Permission, User, Nobody, Or, And}

@@ -5,7 +5,7 @@ use Rattle.std.proofs.lemmas.List.{take_more, map-append}
 use Rattle.words.specs.Words.{bit, bits, with}
 use Rattle.words.proofs.Bits.{bit_none}
 use Rattle.rbac.specs.declared.users.User.{User}
-use Rattle.policy.specs.Tests.{listed as named}
+use Rattle.meaning.specs.Lists.{listed as named}
 use Rattle.lines.specs.Lists.{number_of}
 use Rattle.lines.proofs.Naming.{named_more}
 

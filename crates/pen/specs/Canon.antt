@@ -1,6 +1,6 @@
 -- The one way to write a set: only the parentheses that the reading needs, each user in its own braces.
 use Rattle.std.specs.Prelude.{◌≡◌, ℕ, ◌≤◌, true, List}
-use Rattle.policy.specs.Sets.{UserSet, members, holders, only, nobody, union, intersection}
+use Rattle.meaning.specs.Sets.{UserSet, members, holders, only, nobody, union, intersection}
 use Rattle.grammar.specs.Phrase.{set, term, factor, Phrase, one, or, lone, and, a_role, a_permission, no_users, braces, parens, a_user, meaning, levels, in_range, Short, Written, Ends}
 use Rattle.trees.specs.Reading.{Small}
 

@@ -2,7 +2,7 @@
 use Rattle.std.specs.Prelude.{ℕ, List, [], ◌∷◌, ◌++◌, decimal}
 use Rattle.trees.specs.declared.nodes.Node.{Node}
 use Rattle.trees.specs.declared.nodes.Node.TheVariants.{Role, Permission, User, Nobody, Or, And}
-use Rattle.policy.specs.Sets.{UserSet}
+use Rattle.meaning.specs.Sets.{UserSet}
 use Rattle.grammar.specs.Phrase.{render}
 use Rattle.pen.specs.Canon.{as_set, as_term, as_factor}
 use Rattle.pen.specs.declared.spot.Spot.{Spot}

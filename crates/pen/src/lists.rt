@@ -2,14 +2,14 @@
 ghost use Rattle.std.specs.Prelude.{◌≡◌, ℕ, ◌<◌, Bool, [], ◌∷◌, map, decimal};
 ghost use Rattle.rbac.specs.Roles.{roles_of};
 ghost use Rattle.lines.specs.Entries.{entries};
-ghost use Rattle.policy.specs.Tests.{listed as named};
+ghost use Rattle.meaning.specs.Lists.{listed as named};
 ghost use Rattle.lines.specs.Lists.{number_of};
 ghost use Rattle.pen.specs.Puts.{Wrote};
 ghost use Rattle.pen.specs.Ascending.{ascending};
 
 use crate::writer::Writer;
 use itoa::Buffer;
-use policy::{ROLES, USERS};
+use meaning::{ROLES, USERS};
 use rbac::{Role, RoleSet, User};
 use words::{has, put};
 

@@ -1,6 +1,6 @@
 // Sets in their canonical form: each user in its own braces, and only the parentheses that the reading needs.
 ghost use Rattle.std.specs.Prelude.{◌≡◌, ◌+◌, ◌-◌, ◌≤◌, List, ◌∷◌, ◌++◌, length};
-ghost use Rattle.policy.specs.Sets.{UserSet};
+ghost use Rattle.meaning.specs.Sets.{UserSet};
 ghost use Rattle.trees.specs.Reading.{postfix};
 ghost use Rattle.trees.specs.declared.nodes.Node.{Node as ANode};
 ghost use Rattle.pen.specs.Puts.{Wrote};

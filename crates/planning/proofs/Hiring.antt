@@ -2,10 +2,10 @@
 use Rattle.std.proofs.Common.{◌≡◌, ℕ, ◌<◌, ◌≤◌, Bool, true, false, ◌||◌, T, eqb, List, [], ◌∷◌, ◌++◌, map, length, sym, refl, ap, subst, ap₂, ⊎_elim, eqb→eq, arith, length-append}
 use Rattle.std.proofs.lemmas.Bool.{both_ways}
 use Rattle.std.specs.List.{list_any}
-use Rattle.policy.specs.Tests.{listed}
+use Rattle.meaning.specs.Lists.{listed}
 use Rattle.std.proofs.Math.Facts.{yes_eqb}
-use Rattle.policy.proofs.Tests.{agree, either, as_test, clash, listed_left, listed_right}
-use Rattle.policy.proofs.Room.{room}
+use Rattle.meaning.proofs.Tests.{agree, either, as_test, clash, listed_left, listed_right}
+use Rattle.theory.proofs.Room.{room}
 use Rattle.rbac.specs.declared.users.User.{User as AUser}
 use Rattle.tables.specs.declared.tables.Tables.{Tables}
 use Rattle.bounded.specs.Entries.{entries}

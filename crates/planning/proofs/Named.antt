@@ -2,10 +2,10 @@
 use Rattle.std.proofs.Common.{◌≡◌, ℕ, ◌+◌, Bool, true, false, ◌||◌, eqb, List, [], ◌∷◌, length, sym, refl, ap, ◌∙◌, arith}
 use mathlib.Core.Path.{fun_ext}
 use Rattle.std.proofs.lemmas.Bool.{both_ways}
-use Rattle.policy.specs.Tests.{listed}
-use Rattle.policy.specs.Membership.{State}
-use Rattle.policy.specs.Rules.{Policy}
-use Rattle.policy.proofs.Tests.{deny, as_true, as_false}
+use Rattle.meaning.specs.Lists.{listed}
+use Rattle.meaning.specs.Membership.{State}
+use Rattle.meaning.specs.Rules.{Policy}
+use Rattle.meaning.proofs.Tests.{deny, as_true, as_false}
 use Rattle.rbac.specs.Roles.{no_role}
 use Rattle.trees.specs.declared.nodes.Node.{Node}
 use Rattle.trees.specs.declared.nodes.Node.TheVariants.{Role, Permission, User, Nobody, Or, And}

@@ -1,13 +1,13 @@
 -- What the plan's parts come to.
 use Rattle.std.proofs.Common.{◌≡◌, ℕ, ◌+◌, ◌<◌, ◌≤◌, Bool, true, false, ◌||◌, T, ◌⊎◌, List, [], ◌∷◌, ◌++◌, map, length, get_or, Decides, Result, Ok, Err, not, sym, refl, ap, ◌∙◌, subst, inl, inr, ⊎_elim, arith, length-append}
 use mathlib.Core.Path.{subst⁻¹}
-use Rattle.policy.specs.Tests.{listed}
-use Rattle.policy.specs.Membership.{State}
-use Rattle.policy.specs.Rules.{AssignRule, Policy, Nth, first, later}
-use Rattle.policy.specs.Sets.{Question}
-use Rattle.policy.specs.Bounds.{Holder, Measured}
-use Rattle.policy.specs.Hire.{named, names}
-use Rattle.policy.proofs.Tests.{either, or_left, or_right, as_true, as_test, listed_left, listed_right, listed_either}
+use Rattle.meaning.specs.Lists.{listed, Nth, first, later}
+use Rattle.meaning.specs.Membership.{State}
+use Rattle.meaning.specs.Rules.{AssignRule, Policy}
+use Rattle.meaning.specs.Sets.{Question, named, names}
+use Rattle.meaning.specs.Rows.{Holder}
+use Rattle.theory.specs.Bounds.{Measured}
+use Rattle.meaning.proofs.Tests.{either, or_left, or_right, as_true, as_test, listed_left, listed_right, listed_either}
 use Rattle.rbac.specs.declared.users.User.{User as AUser}
 use Rattle.hierarchy.specs.Edges.{no_roles}
 use Rattle.tables.specs.declared.entries.AssignEntry.{AssignEntry}

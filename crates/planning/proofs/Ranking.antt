@@ -4,8 +4,8 @@ use mathlib.Core.Path.{subst⁻¹}
 use lib.Dec.{eqb_refl}
 use Rattle.std.proofs.lemmas.List.{get_or_past}
 use Rattle.std.proofs.lemmas.Bool.{cases_eq, cases_lt, both_ways}
-use Rattle.policy.specs.Membership.{Role, Permission, Senior, same, above}
-use Rattle.policy.proofs.Tests.{agree, both, first, second, either, or_left, or_right, as_true, as_test}
+use Rattle.meaning.specs.Membership.{Role, Permission, Senior, same, above}
+use Rattle.meaning.proofs.Tests.{agree, both, first, second, either, or_left, or_right, as_true, as_test}
 use Rattle.rbac.specs.declared.sets.RoleSet.{RoleSet}
 use Rattle.rbac.specs.Roles.{roles_of, of_either, no_role}
 use Rattle.rbac.proofs.Masks.{roles_none, roles_past}

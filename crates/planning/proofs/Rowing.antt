@@ -5,9 +5,10 @@ use lib.Dec.{eqb_refl}
 use Rattle.std.proofs.lemmas.Bool.{cases_eq, cases_lt}
 use Rattle.std.specs.List.{list_any}
 use Rattle.std.proofs.lemmas.List.Folds.{list_any_at}
-use Rattle.policy.specs.Tests.{some}
-use Rattle.policy.specs.Bounds.{Holder}
-use Rattle.policy.proofs.Tests.{agree, both, first, second, either, or_left, or_right, as_true, as_test, some_at, some_gives}
+use Rattle.theory.specs.Tests.{some}
+use Rattle.meaning.specs.Rows.{Holder}
+use Rattle.meaning.proofs.Tests.{agree, both, first, second, either, or_left, or_right, as_true, as_test}
+use Rattle.theory.proofs.Tests.{some_at, some_gives}
 use Rattle.rbac.specs.Roles.{roles_of}
 use Rattle.tables.specs.declared.entries.Row.{Row}
 use Rattle.tables.specs.declared.tables.Tables.{Tables}

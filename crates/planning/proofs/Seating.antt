@@ -5,9 +5,9 @@ use lib.Dec.{eqb_refl}
 use Rattle.std.proofs.lemmas.List.{get_or_append_left, get_or-append_right}
 use Rattle.std.proofs.lemmas.List.Folds.{list_any-append, list_any_at}
 use Rattle.std.proofs.lemmas.Bool.{cases_eq, both_ways}
-use Rattle.policy.specs.Membership.{State}
-use Rattle.policy.specs.Rules.{Policy}
-use Rattle.policy.proofs.Tests.{agree, either, or_left, as_true, as_test}
+use Rattle.meaning.specs.Membership.{State}
+use Rattle.meaning.specs.Rules.{Policy}
+use Rattle.meaning.proofs.Tests.{agree, either, or_left, as_true, as_test}
 use Rattle.rbac.specs.Roles.{roles_of}
 use Rattle.deciding.specs.declared.plan.Slot.{Slot}
 use Rattle.deciding.specs.Slots.{no_slot, slot_at, user_at}

@@ -1,11 +1,10 @@
 -- A plan for a question: the users with a row and those it names have the first slots, and a hire the last.
 use Rattle.std.specs.Prelude.{◌≡◌, false, T, ◌⊎◌, List, [], ◌∷◌, ◌++◌, Decides}
-use Rattle.policy.specs.Tests.{listed}
-use Rattle.policy.specs.Membership.{User, State}
-use Rattle.policy.specs.Rules.{Policy}
-use Rattle.policy.specs.Sets.{Question}
-use Rattle.policy.specs.Bounds.{Holder}
-use Rattle.policy.specs.Hire.{names}
+use Rattle.meaning.specs.Lists.{listed}
+use Rattle.meaning.specs.Membership.{User, State}
+use Rattle.meaning.specs.Rules.{Policy}
+use Rattle.meaning.specs.Sets.{Question, names}
+use Rattle.meaning.specs.Rows.{Holder}
 use Rattle.deciding.specs.declared.plan.Slot.{Slot}
 use Rattle.planning.specs.Seats.{Seated, seated}
 

@@ -1,9 +1,9 @@
 -- Masks that say who is senior to whom, and which roles give a permission.
 use Rattle.std.specs.Prelude.{◌<◌, T, ◌↔◌, List}
-use Rattle.policy.specs.Measures.{roles}
-use Rattle.policy.specs.Membership.{Role, Permission, Senior}
-use Rattle.policy.specs.Rules.{Policy}
-use Rattle.policy.specs.Delegation.{TellsSenior}
+use Rattle.meaning.specs.Measures.{roles}
+use Rattle.meaning.specs.Membership.{Role, Permission, Senior}
+use Rattle.meaning.specs.Rules.{Policy}
+use Rattle.theory.specs.Delegation.{TellsSenior}
 use Rattle.rbac.specs.declared.sets.RoleSet.{RoleSet}
 use Rattle.deciding.specs.Masked.{down_of}
 

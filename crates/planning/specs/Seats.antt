@@ -1,9 +1,9 @@
 -- Users in their slots.
 use Rattle.std.specs.Prelude.{◌≡◌, ℕ, ◌+◌, ◌<◌, ◌≤◌, Bool, not, ◌||◌, T, List, length, ◌==◌}
 use Rattle.std.specs.List.{list_any}
-use Rattle.policy.specs.Measures.{users}
-use Rattle.policy.specs.Membership.{User, State}
-use Rattle.policy.specs.Rules.{Policy}
+use Rattle.meaning.specs.Measures.{users}
+use Rattle.meaning.specs.Membership.{User, State}
+use Rattle.meaning.specs.Rules.{Policy}
 use Rattle.rbac.specs.Roles.{roles_of}
 use Rattle.deciding.specs.declared.plan.Slot.{Slot}
 use Rattle.deciding.specs.Slots.{slot_at, user_at}

@@ -1,9 +1,10 @@
 // A plan for a question.
 ghost use Rattle.std.specs.Prelude.{◌≡◌, ℕ, ◌+◌, ◌<◌, ◌≤◌, true, false, [], ◌∷◌, length, Decides};
-ghost use Rattle.policy.specs.Measures.{users, rows, tracked_users, question_operands};
-ghost use Rattle.policy.specs.Tests.{listed};
-ghost use Rattle.policy.specs.Bounds.{Holder, Measured};
-ghost use Rattle.policy.specs.Hire.{names};
+ghost use Rattle.meaning.specs.Measures.{users, rows, tracked_users, question_operands};
+ghost use Rattle.meaning.specs.Lists.{listed};
+ghost use Rattle.meaning.specs.Rows.{Holder};
+ghost use Rattle.theory.specs.Bounds.{Measured};
+ghost use Rattle.meaning.specs.Sets.{names};
 ghost use Rattle.rbac.specs.Roles.{roles_of};
 ghost use Rattle.bounded.specs.Entries.{entries};
 ghost use Rattle.tables.specs.View.{state_of, policy_of, question_of};
@@ -18,7 +19,7 @@ use crate::ranks::masks_of;
 use crate::seats::{has_slot, is_trusted, seat};
 use bounded::Bounded;
 use deciding::{Plan, Slot};
-use policy::{TRACKED_USERS, TRUSTED_USERS};
+use meaning::{TRACKED_USERS, TRUSTED_USERS};
 use rbac::{RoleSet, User};
 use tables::{Row, Tables};
 use trees::{Node, UserTree};

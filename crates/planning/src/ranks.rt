@@ -1,7 +1,7 @@
 // The masks of seniors and givers. Each table is filled by a call of its own; one function that fills any table would be given that call as a closure, and its contract would say no less.
 ghost use Rattle.std.specs.Prelude.{◌≡◌, ℕ, ◌<◌, T, length, Decides, slice_index_or};
-ghost use Rattle.policy.specs.Measures.{roles, permissions};
-ghost use Rattle.policy.specs.Membership.{Senior};
+ghost use Rattle.meaning.specs.Measures.{roles, permissions};
+ghost use Rattle.meaning.specs.Membership.{Senior};
 ghost use Rattle.rbac.specs.Roles.{roles_of};
 ghost use Rattle.hierarchy.specs.Edges.{edges_of, no_roles};
 ghost use Rattle.tables.specs.View.{policy_of};
@@ -10,7 +10,7 @@ ghost use Rattle.planning.specs.Ranks.{Ranked};
 
 use deciding::Masks;
 use hierarchy::Hierarchy;
-use policy::{PERMISSIONS, ROLES};
+use meaning::{PERMISSIONS, ROLES};
 use rbac::{Role, RoleSet};
 use tables::Tables;
 

@@ -1,7 +1,7 @@
 // Users get slots, each of them one.
 ghost use Rattle.std.specs.Prelude.{◌≡◌, ◌<◌, false, length, ◌==◌};
 ghost use Rattle.std.specs.List.{list_any};
-ghost use Rattle.policy.specs.Measures.{users, tracked_users};
+ghost use Rattle.meaning.specs.Measures.{users, tracked_users};
 ghost use Rattle.rbac.specs.Roles.{roles_of};
 ghost use Rattle.bounded.specs.Entries.{entries};
 ghost use Rattle.tables.specs.View.{state_of, policy_of};
@@ -9,7 +9,7 @@ ghost use Rattle.planning.specs.Seats.{seated, Grown};
 
 use bounded::Bounded;
 use deciding::Slot;
-use policy::TRACKED_USERS;
+use meaning::TRACKED_USERS;
 use rbac::{RoleSet, User};
 use tables::Tables;
 

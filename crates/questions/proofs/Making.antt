@@ -2,11 +2,9 @@
 use Rattle.std.proofs.Common.{◌≡◌, ℕ, ◌+◌, ◌<◌, ◌≤◌, true, T, ◌⊎◌, length, sym, ◌∙◌, ap₂, inl, inr, ⊎_elim, arith, length-append}
 use mathlib.Core.Path.{subst⁻¹}
 use Rattle.std.proofs.lemmas.Bool.{cases_lt}
-use Rattle.policy.specs.Sets.{UserSet, members, holders, only, nobody, union, intersection, Question, Static, SemiStatic}
-use Rattle.policy.specs.Hire.{named, names}
-use Rattle.policy.specs.Tests.{listed}
-use Rattle.policy.specs.Verdicts.{Askable}
-use Rattle.policy.proofs.Tests.{listed_either}
+use Rattle.meaning.specs.Sets.{UserSet, members, holders, only, nobody, union, intersection, Question, Static, SemiStatic, named, names, Askable}
+use Rattle.meaning.specs.Lists.{listed}
+use Rattle.meaning.proofs.Tests.{listed_either}
 use Rattle.trees.specs.Reading.{Nodes, listed as nodes_of}
 use Rattle.trees.specs.Trees.{balanced}
 use Rattle.tables.specs.View.{set_of, question_of}

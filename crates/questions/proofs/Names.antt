@@ -1,10 +1,9 @@
 -- The users that a set's nodes name are those that the set names.
 use Rattle.std.proofs.Common.{◌≡◌, ◌<◌, ◌≤◌, Bool, true, false, T, eqb, suc, ltb, List, [], ◌∷◌, ◌++◌, length, filter, cond, ltb-true, eqb→eq, Some, sym, refl, ap, ◌∙◌, ap₂, ⊎_elim, arith}
 use mathlib.Core.Path.{subst⁻¹}
-use Rattle.policy.specs.Tests.{listed}
-use Rattle.policy.specs.Sets.{UserSet, members, holders, only, nobody, union, intersection}
-use Rattle.policy.specs.Hire.{named}
-use Rattle.policy.proofs.Tests.{either}
+use Rattle.meaning.specs.Lists.{listed}
+use Rattle.meaning.specs.Sets.{UserSet, members, holders, only, nobody, union, intersection, named}
+use Rattle.meaning.proofs.Tests.{either}
 use Rattle.trees.specs.declared.nodes.Node.{Node}
 use Rattle.trees.specs.declared.nodes.Node.TheVariants.{Role, Permission, User, Nobody, Or, And}
 use Rattle.trees.specs.Reading.{Nodes, postfix, listed as nodes_of}

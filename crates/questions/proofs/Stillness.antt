@@ -3,7 +3,7 @@ use Rattle.std.proofs.Common.{◌≡◌, Bool, true, false, ◌&&◌, List, [], 
 use mathlib.Core.Path.{subst⁻¹}
 use Rattle.std.proofs.lemmas.Bool.{both_ways}
 use Rattle.std.proofs.lemmas.List.Folds.{list_all-append}
-use Rattle.policy.specs.Sets.{UserSet, members, holders, only, nobody, union, intersection, Static}
+use Rattle.meaning.specs.Sets.{UserSet, members, holders, only, nobody, union, intersection, Static}
 use Rattle.trees.specs.declared.nodes.Node.{Node}
 use Rattle.trees.specs.declared.nodes.Node.TheVariants.{Or, And}
 use Rattle.trees.specs.Reading.{Nodes, postfix, listed as nodes_of}

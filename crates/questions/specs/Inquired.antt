@@ -1,8 +1,7 @@
 -- What an inquiry asks.
 use Rattle.std.specs.Prelude.{◌≡◌}
-use Rattle.policy.specs.Sets.{UserSet, Question}
-use Rattle.policy.specs.Verdicts.{Askable}
-use Rattle.policy.specs.declared.terms.Kind.{Kind}
+use Rattle.meaning.specs.Sets.{UserSet, Question, Askable}
+use Rattle.meaning.specs.declared.terms.Kind.{Kind}
 use Rattle.trees.specs.Reading.{Nodes, listed, postfix}
 use Rattle.tables.specs.View.{question_of}
 use Rattle.questions.specs.declared.inquiry.Inquiry.{Inquiry}

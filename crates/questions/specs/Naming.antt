@@ -1,8 +1,8 @@
 -- The users that nodes name.
 use Rattle.std.specs.Prelude.{Bool, true, false, T, List, [], ◌∷◌, nat_lt}
-use Rattle.policy.specs.Measures.{users}
-use Rattle.policy.specs.Membership.{User, IsUser}
-use Rattle.policy.specs.Tests.{listed}
+use Rattle.meaning.specs.Measures.{users}
+use Rattle.meaning.specs.Membership.{User, IsUser}
+use Rattle.meaning.specs.Lists.{listed}
 use Rattle.trees.specs.declared.nodes.Node.{Node}
 use Rattle.trees.specs.declared.nodes.Node.TheVariants.{Role, Permission, User as UserNode, Nobody, Or, And}
 

@@ -1,15 +1,14 @@
 // Questions made, by a check.
 ghost use Rattle.std.specs.Option.{MatchOption};
-ghost use Rattle.policy.specs.Sets.{Static};
-ghost use Rattle.policy.specs.Terms.{side};
-ghost use Rattle.policy.specs.Verdicts.{Askable};
+ghost use Rattle.meaning.specs.Sets.{Static, Askable};
+ghost use Rattle.meaning.specs.Terms.{side};
 ghost use Rattle.tables.specs.View.{question_of};
 ghost use Rattle.questions.specs.Inquired.{inquired, Posable, Asks};
 
 use crate::inquiry::Inquiry;
 use crate::naming::named;
 use crate::statics::is_static;
-use policy::{Kind, QUESTION_OPERANDS, Side};
+use meaning::{Kind, QUESTION_OPERANDS, Side};
 use trees::{Nodes, UserTree};
 
 impl Inquiry {

@@ -1,8 +1,8 @@
 // A question, with its kind. Where one is had, a side of it is static and it names few enough users, all in range, with no further check.
-ghost use Rattle.policy.specs.Verdicts.{Askable};
+ghost use Rattle.meaning.specs.Sets.{Askable};
 ghost use Rattle.tables.specs.View.{question_of};
 
-use policy::Kind;
+use meaning::Kind;
 use trees::UserTree;
 
 #[derive(Clone, Copy)]

@@ -1,6 +1,6 @@
 // Whether a set holds no role and no permission, so that no run changes it.
 ghost use Rattle.std.specs.Prelude.{◌≡◌, Decides};
-ghost use Rattle.policy.specs.Sets.{Static};
+ghost use Rattle.meaning.specs.Sets.{Static};
 ghost use Rattle.tables.specs.View.{set_of};
 ghost use Rattle.questions.specs.Statics.{still, all_still};
 

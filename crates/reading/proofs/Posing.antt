@@ -1,10 +1,9 @@
 -- A sentence that asks poses a question that can be asked.
 use Rattle.std.proofs.Common.{◌≡◌, ℕ, Bool, true, false, List, refl, ap₂}
 use mathlib.Core.Path.{subst⁻¹}
-use Rattle.policy.specs.Sets.{UserSet, Question}
-use Rattle.policy.specs.Verdicts.{Askable}
-use Rattle.policy.specs.declared.terms.Kind.{Kind}
-use Rattle.policy.specs.declared.terms.Kind.TheVariants as Asking
+use Rattle.meaning.specs.Sets.{UserSet, Question, Askable}
+use Rattle.meaning.specs.declared.terms.Kind.{Kind}
+use Rattle.meaning.specs.declared.terms.Kind.TheVariants as Asking
 use Rattle.grammar.specs.declared.grounds.Ground.TheVariants.{Range, Measure, NotSemiStatic}
 use Rattle.grammar.specs.Phrase.{meaning}
 use Rattle.lines.specs.declared.change.Extra.{Extra}

@@ -1,8 +1,8 @@
 -- What a question poses.
 use Rattle.std.specs.Prelude.{ℕ, ◌<◌, List, Ok, Err, Result}
-use Rattle.policy.specs.Sets.{Question}
-use Rattle.policy.specs.declared.terms.Kind.{Kind}
-use Rattle.policy.specs.declared.terms.Kind.TheVariants.{Possible, Necessary}
+use Rattle.meaning.specs.Sets.{Question}
+use Rattle.meaning.specs.declared.terms.Kind.{Kind}
+use Rattle.meaning.specs.declared.terms.Kind.TheVariants.{Possible, Necessary}
 use Rattle.lines.specs.Bodies.{Sides, question_of}
 use Rattle.lines.specs.Languages.{Says}
 use Rattle.lines.specs.Lines.{Sentence, questions}

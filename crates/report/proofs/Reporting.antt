@@ -3,7 +3,7 @@ use Rattle.std.proofs.Common.{◌≡◌, ℕ, ◌<◌, ◌≤◌, List, length, 
 use Rattle.std.specs.Option.{is_some, ok_or}
 use mathlib.Core.Path.{subst⁻¹}
 use Rattle.std.proofs.lemmas.Bool.{cases_lt}
-use Rattle.policy.specs.Runs.{Change}
+use Rattle.meaning.specs.Runs.{Change}
 use Rattle.deciding.specs.declared.runs.RunStep.{RunStep}
 use Rattle.verdicts.specs.declared.verdict.Shown.{Shown}
 use Rattle.book.specs.Book.{Book}

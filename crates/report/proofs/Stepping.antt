@@ -1,7 +1,7 @@
 -- One step more is one line more.
 use Rattle.std.proofs.Common.{◌≡◌, ℕ, ◌+◌, ◌<◌, Bool, true, false, List, [], ◌∷◌, ◌++◌, length, get_or, take, decimal, sym, refl, ap, ◌∙◌, append_assoc}
 use Rattle.std.proofs.lemmas.List.{take_more, map-append, append-nil, length-map}
-use Rattle.policy.specs.Runs.{Change}
+use Rattle.meaning.specs.Runs.{Change}
 use Rattle.deciding.specs.declared.runs.RunStep.{RunStep}
 use Rattle.verdicts.specs.Looking.{change_of, changes}
 use Rattle.report.specs.Texts.{does_word, told_step, step_text, run_text, with_run}

@@ -1,6 +1,6 @@
 -- The report of a board text and a question: the text is opened on a board of its own, and the question is answered there.
 use Rattle.std.specs.Prelude.{ℕ, List, Err, Result}
-use Rattle.policy.specs.Measures.{list_places, work_words}
+use Rattle.meaning.specs.Measures.{list_places, work_words}
 use Rattle.book.specs.declared.refusal.Refusal.{Refusal}
 use Rattle.book.specs.Numbers.{number_of}
 use Rattle.book.specs.Book.{Book, new_book}

@@ -2,12 +2,12 @@
 use Rattle.std.specs.Prelude.{◌≡◌, ℕ, ◌<◌, Bool, ◌⊎◌, List, ◌++◌, length, drop, Ok, Err, Decides, Option, MatchOption, Result}
 use Rattle.std.specs.Bool.{beq}
 use Rattle.std.specs.Option.{is_some}
-use Rattle.policy.specs.Measures.{list_places, work_words}
-use Rattle.policy.specs.Sets.{Question}
-use Rattle.policy.specs.Runs.{Change, moves}
-use Rattle.policy.specs.Verdicts.{Shows}
-use Rattle.policy.specs.Terms.{Asked}
-use Rattle.policy.specs.declared.terms.Kind.{Kind}
+use Rattle.meaning.specs.Measures.{list_places, work_words}
+use Rattle.meaning.specs.Sets.{Question}
+use Rattle.meaning.specs.Runs.{Change, moves}
+use Rattle.meaning.specs.Witnesses.{Shows}
+use Rattle.meaning.specs.Terms.{IsYes}
+use Rattle.meaning.specs.declared.terms.Kind.{Kind}
 use Rattle.lines.specs.Languages.{Says}
 use Rattle.lines.specs.Lines.{Sentence, questions}
 use Rattle.book.specs.declared.refusal.Refusal.{Refusal}
@@ -30,7 +30,7 @@ pub record Reports (b : Book) (text report : List ℕ) : Type 0 where
   pub question : Question
   pub poses : Poses sentence kind question
   pub verdict : Bool
-  pub exact : Decides verdict (Asked kind b.policy b.state question)
+  pub exact : Decides verdict (IsYes kind b.policy b.state question)
   pub run : Option (List Change)
   pub shown : is_some run ≡ beq verdict (sought_by kind)
   pub shows : MatchOption run (Unit {0}) (λ xs. Shows (moves b.policy) b.state question (Sought (sought_by kind) b.policy question) list_places xs)

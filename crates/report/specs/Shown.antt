@@ -1,6 +1,6 @@
 -- The runs that answers and refusals hand out, from the list in which they stand.
 use Rattle.std.specs.Prelude.{ℕ, List, [], take, Some, None, Option}
-use Rattle.policy.specs.Runs.{Change}
+use Rattle.meaning.specs.Runs.{Change}
 use Rattle.deciding.specs.declared.runs.RunStep.{RunStep}
 use Rattle.verdicts.specs.declared.verdict.Shown.{Shown}
 use Rattle.verdicts.specs.Looking.{changes}

@@ -1,8 +1,8 @@
 -- The lines that tell an answer, a run and a refusal. Byte 10 ends each of them.
 use Rattle.std.specs.Prelude.{ℕ, Bool, true, false, List, [], ◌∷◌, ◌++◌, length, Some, None, codes, decimal, Option}
-use Rattle.policy.specs.Runs.{Change, adds, removes}
-use Rattle.policy.specs.declared.terms.Kind.{Kind}
-use Rattle.policy.specs.declared.terms.Kind.TheVariants.{Possible, Necessary}
+use Rattle.meaning.specs.Runs.{Change, adds, removes}
+use Rattle.meaning.specs.declared.terms.Kind.{Kind}
+use Rattle.meaning.specs.declared.terms.Kind.TheVariants.{Possible, Necessary}
 use Rattle.book.specs.declared.refusal.Refusal.{Refusal}
 use Rattle.book.specs.Numbers.{number_of}
 

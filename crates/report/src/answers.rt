@@ -7,8 +7,8 @@ ghost use Rattle.report.specs.Shown.{shown_by};
 use crate::runs::{steps_of, write_run};
 use board::Answer;
 use deciding::RunStep;
+use meaning::Kind;
 use pen::Writer;
-use policy::Kind;
 
 fn kind_word(kind: Kind) -> &'static [u8]
     ensures { result.now ≡ kind_word kind }

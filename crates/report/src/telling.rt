@@ -6,7 +6,7 @@ use crate::answers::write_answer;
 use board::Board;
 use book::{Cause, Refusal};
 use deciding::RunStep;
-use policy::{LIST_PLACES, WORK_WORDS};
+use meaning::{LIST_PLACES, WORK_WORDS};
 use saving::place::save;
 
 // Answers the question that the text poses, and writes the report at the front of the place: how long it is. The place of a refused question is left as it was, and so is one that is too short.

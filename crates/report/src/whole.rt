@@ -5,7 +5,7 @@ use crate::telling::report_of;
 use board::Board;
 use book::Refusal;
 use deciding::RunStep;
-use policy::{LIST_PLACES, WORK_WORDS};
+use meaning::{LIST_PLACES, WORK_WORDS};
 
 // Opens the text on a board of its own, answers the question there, and writes the report at the front of the place: how long it is. Where the text or the question is refused, or the place is too short, the place is left as it was.
 pub fn report(text: &[u8], question: &[u8], place: &mut [u8]) -> Result<usize, Refusal>

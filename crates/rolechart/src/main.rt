@@ -4,7 +4,7 @@
 mod shop;
 
 use hierarchy::{Descent, Edge, Hierarchy};
-use policy::ROLES;
+use meaning::ROLES;
 use rbac::{Role, RoleSet};
 use shop::Post;
 use std::io;

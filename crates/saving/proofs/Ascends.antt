@@ -5,7 +5,7 @@ use borrow.Author.Tests.{clash}
 use Rattle.std.proofs.lemmas.Bool.{lt-ltb, le-ltb, cases_lt, cases_eq, and_from, and_parts}
 use Rattle.std.proofs.lemmas.List.{append-nil}
 use Rattle.lines.specs.Entries.{AllShort, all_below}
-use Rattle.policy.specs.Tests.{listed as named}
+use Rattle.meaning.specs.Lists.{listed as named}
 use Rattle.lines.proofs.Naming.{named_more, below_more}
 use Rattle.lines.proofs.Walking.{short_more}
 use Rattle.pen.specs.Ascending.{ascending}

@@ -1,6 +1,6 @@
 -- The text of nodes that are a set's.
 use Rattle.std.proofs.Common.{◌≡◌, sym, ap, ◌∙◌}
-use Rattle.policy.specs.Sets.{UserSet}
+use Rattle.meaning.specs.Sets.{UserSet}
 use Rattle.grammar.specs.Phrase.{render}
 use Rattle.trees.specs.Reading.{Nodes, postfix, listed}
 use Rattle.trees.specs.Trees.{decode}

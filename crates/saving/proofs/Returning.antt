@@ -6,7 +6,7 @@ use Rattle.std.proofs.lemmas.List.{take_all}
 use Rattle.grammar.specs.declared.grounds.Ground.{Ground}
 use Rattle.grammar.specs.declared.grounds.Ground.TheVariants.{Syntax, Range, Measure, NotSemiStatic}
 use Rattle.lines.specs.Languages.{Fails}
-use Rattle.policy.specs.Sets.{as_condition}
+use Rattle.meaning.specs.Sets.{as_condition}
 use Rattle.grammar.specs.Phrase.{set, Phrase, meaning, levels, operands, in_range, static, roles_alone, Short}
 use Rattle.rbac.specs.Roles.{roles_of}
 use Rattle.rbac.specs.declared.sets.RoleSet.{RoleSet}
@@ -18,7 +18,7 @@ use Rattle.lines.specs.declared.change.Extra.{Extra}
 use Rattle.lines.specs.declared.keyword.Keyword.{Keyword}
 use Rattle.lines.specs.declared.keyword.Keyword.TheVariants.{Ua, Pa, Rh, Trust, Assign, Revoke, Always, Never}
 use Rattle.lines.specs.Entries.{entries, all_below}
-use Rattle.policy.specs.Tests.{listed as named}
+use Rattle.meaning.specs.Lists.{listed as named}
 use Rattle.lines.specs.Lists.{number_of}
 use Rattle.lines.specs.Bodies as B
 use Rattle.lines.specs.Bodies.{Row, roles_in, users_in, Clause, always_true, in_set, clause_bytes, ProperClause, clause_ranged, clause_small, condition, Assigning, Sides}

@@ -1,6 +1,6 @@
 -- The one canonical text of a line, from its change and what lies beside it.
 use Rattle.std.specs.Prelude.{◌≡◌, ℕ, ◌<◌, ◌≤◌, List, [], ◌++◌, map, length, drop, Some, None, codes, decimal, Option}
-use Rattle.policy.specs.Sets.{UserSet}
+use Rattle.meaning.specs.Sets.{UserSet}
 use Rattle.grammar.specs.Phrase.{render}
 use Rattle.rbac.specs.Roles.{roles_of}
 use Rattle.rbac.specs.declared.sets.RoleSet.{RoleSet}
@@ -11,7 +11,7 @@ use Rattle.lines.specs.declared.change.Change.{Change}
 use Rattle.lines.specs.declared.change.Change.TheVariants.{Ua, Pa, Rh, Trust, Assign, Revoke, Always, Never}
 use Rattle.lines.specs.declared.change.Extra.{Extra}
 use Rattle.lines.specs.Entries.{entries}
-use Rattle.policy.specs.Tests.{listed as named}
+use Rattle.meaning.specs.Lists.{listed as named}
 use Rattle.lines.specs.Lists.{number_of}
 use Rattle.pen.specs.Ascending.{ascending}
 use Rattle.pen.specs.Canon.{as_set}

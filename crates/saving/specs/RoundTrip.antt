@@ -1,14 +1,14 @@
 -- What a line says, and that its canonical text says the same.
 use Rattle.std.specs.Prelude.{◌≡◌, ℕ, ◌≤◌, Bool, List, length, Some, None, Ok, Err, Option, Result}
-use Rattle.policy.specs.Rules.{Condition}
-use Rattle.policy.specs.Sets.{UserSet}
+use Rattle.meaning.specs.Rules.{Condition}
+use Rattle.meaning.specs.Sets.{UserSet}
 use Rattle.grammar.specs.Phrase.{meaning}
 use Rattle.grammar.specs.declared.grounds.Ground.{Ground}
 use Rattle.lines.specs.declared.change.Change.{Change}
 use Rattle.lines.specs.declared.change.Extra.{Extra}
 use Rattle.lines.specs.declared.keyword.Keyword.{Keyword}
 use Rattle.lines.specs.declared.keyword.Keyword.TheVariants.{Ua, Pa, Rh, Trust, Assign, Revoke, Always, Never, Possible, Necessary}
-use Rattle.policy.specs.Tests.{listed as named}
+use Rattle.meaning.specs.Lists.{listed as named}
 use Rattle.lines.specs.Bodies.{roles_in, users_in, condition}
 use Rattle.lines.specs.Lines.{bodies, Sentence, lines, Fine, Means}
 use Rattle.saving.specs.Canonical.{canonical}

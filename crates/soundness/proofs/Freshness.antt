@@ -1,8 +1,9 @@
 -- A new board is sound.
 use Rattle.std.proofs.Common.{◌≡◌, ℕ, [], sym, refl, ap, ◌∙◌, subst}
 use mathlib.Core.Path.{subst⁻¹}
-use Rattle.policy.specs.Rules.{Policy, Nth}
-use Rattle.policy.specs.Regimes.{Regular}
+use Rattle.meaning.specs.Rules.{Policy}
+use Rattle.meaning.specs.Lists.{Nth}
+use Rattle.meaning.specs.Regimes.{Regular}
 use Rattle.tables.specs.declared.entries.AssignEntry.{AssignEntry}
 use Rattle.tables.specs.declared.tables.Tables.{Tables}
 use Rattle.tables.specs.View.{state_of, policy_of, assign_of}

@@ -3,10 +3,9 @@ use Rattle.std.proofs.Common.{◌≡◌, ℕ, ◌+◌, ◌<◌, Bool, true, fals
 use mathlib.Core.Path.{subst⁻¹}
 use lib.Dec.{eqb_refl}
 use Rattle.std.proofs.lemmas.Bool.{eq-eqb, both_ways}
-use Rattle.policy.specs.Rules.{Nth}
-use Rattle.policy.proofs.Numbered.{at_nth}
-use Rattle.policy.proofs.Numbered.{nth_at as nth_place}
-use Rattle.policy.proofs.Tests.{second, both, as_true, as_test}
+use Rattle.meaning.specs.Lists.{Nth}
+use Rattle.meaning.proofs.Numbered.{at_nth, nth_at as nth_place}
+use Rattle.meaning.proofs.Tests.{second, both, as_true, as_test}
 use Rattle.rbac.specs.declared.users.User.{User}
 use Rattle.rbac.specs.Roles.{roles_of}
 use Rattle.tables.specs.declared.entries.Row.{Row}

@@ -4,16 +4,16 @@ use mathlib.Core.Path.{subst⁻¹}
 use lib.ListN.{length-map}
 use Rattle.std.proofs.lemmas.List.{nil_from_length}
 use Rattle.std.proofs.lemmas.Bool.{both_ways, eq-eqb, eqb-true}
-use Rattle.policy.specs.Membership.{State}
-use Rattle.policy.specs.Rules.{Policy, aatu, aar, Nth}
-use Rattle.policy.specs.Rules.{Regime as RegimeMeant}
-use Rattle.policy.specs.declared.terms.Regime.TheVariants.{Aatu as aatu_here, Aar as aar_here}
-use Rattle.policy.specs.Regimes.{Administers, Assignable, Revocable, AdminsAreNoTargets, Aatu, Aar, Regular}
-use Rattle.policy.proofs.Tests.{either, or_left, or_right, clash, second, both, deny, as_true, as_test}
+use Rattle.meaning.specs.Membership.{State}
+use Rattle.meaning.specs.Rules.{Policy, aatu, aar, Regime as RegimeMeant}
+use Rattle.meaning.specs.Lists.{Nth}
+use Rattle.meaning.specs.declared.terms.Regime.TheVariants.{Aatu as aatu_here, Aar as aar_here}
+use Rattle.meaning.specs.Regimes.{Administers, Assignable, Revocable, AdminsAreNoTargets, Aatu, Aar, Regular}
+use Rattle.meaning.proofs.Tests.{either, or_left, or_right, clash, second, both, deny, as_true, as_test}
 use Rattle.rbac.specs.declared.sets.RoleSet.{RoleSet}
 use Rattle.rbac.specs.declared.users.User.{User}
 use Rattle.rbac.specs.Roles.{roles_of, of_either}
-use Rattle.policy.specs.Terms.{regime_of}
+use Rattle.meaning.specs.Terms.{regime_of}
 use Rattle.tables.specs.declared.entries.AssignEntry.{AssignEntry}
 use Rattle.tables.specs.declared.entries.RevokeEntry.{RevokeEntry}
 use Rattle.tables.specs.declared.tables.Tables.{Tables}

@@ -3,13 +3,13 @@ use Rattle.std.proofs.Common.{◌≡◌, ℕ, ◌<◌, Bool, true, false, not, �
 use mathlib.Core.Path.{subst⁻¹}
 use lib.Dec.{eqb_refl}
 use Rattle.std.proofs.lemmas.Bool.{both_ways}
-use Rattle.policy.specs.Rules.{Policy, aatu, aar}
-use Rattle.policy.specs.Rules.{Regime as RegimeMeant}
-use Rattle.policy.specs.Reach.{revocable}
-use Rattle.policy.specs.Regimes.{Revocable}
-use Rattle.policy.specs.Sets.{UserSet}
-use Rattle.policy.proofs.Numbered.{at_nth, nth_at, revocable_gives, gives_revocable}
-use Rattle.policy.proofs.Tests.{first, second, both}
+use Rattle.meaning.specs.Rules.{Policy, aatu, aar, Regime as RegimeMeant}
+use Rattle.theory.specs.Reach.{revocable}
+use Rattle.meaning.specs.Regimes.{Revocable}
+use Rattle.meaning.specs.Sets.{UserSet}
+use Rattle.meaning.proofs.Numbered.{at_nth, nth_at}
+use Rattle.theory.proofs.Revocable.{revocable_gives, gives_revocable}
+use Rattle.meaning.proofs.Tests.{first, second, both}
 use Rattle.rbac.specs.Roles.{roles_of}
 use Rattle.trees.specs.Reading.{listed, postfix}
 use Rattle.trees.specs.Trees.{decode}

@@ -1,13 +1,13 @@
 -- Nodes of roles alone.
 use Rattle.std.proofs.Common.{◌≡◌, ℕ, suc, ◌<◌, Bool, true, false, ◌&&◌, ltb, List, [], ◌∷◌, ◌++◌, length, get_or, Option, Some, None, is_some, MatchBool, Decides, subst, sym, refl, ap, ◌∙◌, ap₂, not-suc-le-zero, arith}
-use Rattle.policy.specs.Sets.{UserSet, members, holders, only, nobody, union, intersection}
+use Rattle.meaning.specs.Sets.{UserSet, members, holders, only, nobody, union, intersection}
 use Rattle.trees.specs.declared.nodes.Node.{Node}
 use Rattle.trees.specs.declared.nodes.Node.TheVariants.{Or, And}
 use Rattle.trees.specs.Reading.{Nodes, listed, postfix}
 use Rattle.std.proofs.lemmas.List.Folds.{list_all-append}
 use Rattle.std.specs.List.{AllWithin, HoldsAt}
-use Rattle.policy.specs.Rules.{Nth}
-use Rattle.policy.proofs.Numbered.{nth_at, at_nth}
+use Rattle.meaning.specs.Lists.{Nth}
+use Rattle.meaning.proofs.Numbered.{nth_at, at_nth}
 use Rattle.trees.specs.declared.tree.UserTree.{UserTree}
 use Rattle.trees.specs.Made.{Made}
 use Rattle.tables.specs.declared.entries.Needs.TheVariants.{Roles}

@@ -2,7 +2,7 @@
 use Rattle.std.specs.Prelude.{◌≡◌, ℕ, ◌*◌, Bool, true, false, List, length, nat_lt}
 use Rattle.std.specs.List.{list_all}
 use Rattle.words.specs.Words.{bits}
-use Rattle.policy.specs.Measures.{users, roles}
+use Rattle.meaning.specs.Measures.{users, roles}
 use Rattle.trees.specs.declared.nodes.Node.{Node}
 use Rattle.trees.specs.declared.nodes.Node.TheVariants.{Role, Permission, User, Nobody, Or, And}
 

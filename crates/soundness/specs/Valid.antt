@@ -1,9 +1,9 @@
 -- What the tables of every board keep: no user has two rows, conditions are sets of roles, and the regime's properties hold.
 use Rattle.std.specs.Prelude.{◌≡◌, ℕ, Bool, true, false, ◌&&◌, nat_lt}
-use Rattle.policy.specs.Measures.{roles}
-use Rattle.policy.specs.Rules.{Nth}
-use Rattle.policy.specs.Regimes.{Regular}
-use Rattle.policy.specs.Sets.{UserSet, members, holders, only, nobody, union, intersection}
+use Rattle.meaning.specs.Measures.{roles}
+use Rattle.meaning.specs.Lists.{Nth}
+use Rattle.meaning.specs.Regimes.{Regular}
+use Rattle.meaning.specs.Sets.{UserSet, members, holders, only, nobody, union, intersection}
 use Rattle.trees.specs.Reading.{listed, postfix}
 use Rattle.tables.specs.declared.entries.Needs.{Needs}
 use Rattle.tables.specs.declared.entries.Needs.TheVariants.{Everybody, Roles}

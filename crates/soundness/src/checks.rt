@@ -1,6 +1,6 @@
 // Whether plain tables are a board's: users have one row each, conditions are sets of roles, and the regime is kept.
 ghost use Rattle.std.specs.Prelude.{◌≡◌, ℕ, Decides};
-ghost use Rattle.policy.specs.Rules.{Nth};
+ghost use Rattle.meaning.specs.Lists.{Nth};
 ghost use Rattle.tables.specs.declared.entries.AssignEntry.{AssignEntry as Entry};
 ghost use Rattle.bounded.specs.Entries.{entries};
 ghost use Rattle.tables.specs.Rows.{Apart, Clash};
@@ -8,7 +8,7 @@ ghost use Rattle.soundness.specs.Valid.{Whole, Sound};
 ghost use Rattle.soundness.specs.Checks.{Blank, is_role_node, all_roles};
 
 use crate::regime::regime_kept;
-use policy::{ROLES, USERS};
+use meaning::{ROLES, USERS};
 use tables::{AssignEntry, Needs, Row, Tables};
 use trees::{Node, UserTree};
 use words::{has, put};

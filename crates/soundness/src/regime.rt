@@ -1,13 +1,13 @@
 // What the regime asks for, as sets of roles: those that administer, those that rules assign and revoke, and those that somebody has.
 ghost use Rattle.std.specs.Prelude.{◌≡◌, ℕ, ◌<◌, Bool, not, T, length, Decides, MatchOption};
-ghost use Rattle.policy.specs.Measures.{users};
-ghost use Rattle.policy.specs.Membership.{User as UserNumber, Role as RoleNumber, IsUser};
-ghost use Rattle.policy.specs.Rules.{Nth};
-ghost use Rattle.policy.specs.Regimes.{Administers, Assignable, Revocable, AdminsAreNoTargets, AdminsAreAssigned, AssignableIsRevocable, Aar, Regular};
+ghost use Rattle.meaning.specs.Measures.{users};
+ghost use Rattle.meaning.specs.Membership.{User as UserNumber, Role as RoleNumber, IsUser};
+ghost use Rattle.meaning.specs.Lists.{Nth};
+ghost use Rattle.meaning.specs.Regimes.{Administers, Assignable, Revocable, AdminsAreNoTargets, AdminsAreAssigned, AssignableIsRevocable, Aar, Regular};
 ghost use Rattle.rbac.specs.Roles.{roles_of};
 ghost use Rattle.tables.specs.View.{assigned, state_of, policy_of, names};
 
-use policy::Regime;
+use meaning::Regime;
 use rbac::{Role, RoleSet, User};
 use tables::{AssignEntry, RevokeEntry, Row, Tables};
 

@@ -2,10 +2,9 @@
 use Rattle.std.proofs.Common.{ℕ, ◌<◌, ◌≤◌, List, [], ◌∷◌, length, refl, inl, inr, ⊎_elim, arith}
 use mathlib.Core.Path.{subst⁻¹}
 use Rattle.std.proofs.lemmas.Bool.{cases_lt}
-use Rattle.policy.specs.Membership.{IsUser}
-use Rattle.policy.specs.Bounds.{Holder}
-use Rattle.policy.specs.Granting.{FreeRow}
-use Rattle.policy.specs.Terms.{regime_of}
+use Rattle.meaning.specs.Membership.{IsUser}
+use Rattle.meaning.specs.Rows.{Holder, FreeRow}
+use Rattle.meaning.specs.Terms.{regime_of}
 use Rattle.book.specs.Book.{Book}
 use Rattle.book.specs.Refusals.{None}
 use Rattle.book.specs.Orderly.{Orderly}

@@ -1,6 +1,6 @@
 -- A story has one book.
 use Rattle.std.proofs.Common.{◌≡◌, ℕ, List, [], ◌∷◌, sym, ap, ◌∙◌, subst, inl, inr}
-use Rattle.policy.specs.Rules.{aatu}
+use Rattle.meaning.specs.Rules.{aatu}
 use Rattle.book.specs.Book.{Book, new_book}
 use Rattle.book.specs.Orderly.{Orderly}
 use Rattle.book.specs.Calls.{Call, opening, changing, asking, adding, removing, ChangeRefuses, askings, additions, removals, line_of, Done, Refused, Step, Told}

@@ -1,10 +1,10 @@
 -- The promise over stories, from what a board keeps and what it answers.
 use Rattle.std.proofs.Common.{◌≡◌, ℕ, List, take, drop, Some, None, Ok, Err, Option, Result, MatchOption}
-use Rattle.policy.specs.Measures.{list_places}
-use Rattle.policy.specs.Runs.{moves}
-use Rattle.policy.specs.Verdicts.{Shows}
-use Rattle.policy.specs.declared.terms.Kind.{Kind}
-use Rattle.policy.specs.Sets.{Question}
+use Rattle.meaning.specs.Measures.{list_places}
+use Rattle.meaning.specs.Runs.{moves}
+use Rattle.meaning.specs.Witnesses.{Shows}
+use Rattle.meaning.specs.declared.terms.Kind.{Kind}
+use Rattle.meaning.specs.Sets.{Question}
 use Rattle.deciding.specs.declared.runs.RunStep.{RunStep}
 use Rattle.tables.specs.View.{policy_of, state_of}
 use Rattle.soundness.proofs.Stable.{sound}

@@ -1,6 +1,6 @@
 -- A call of a story, as the book of the story hears it.
 use Rattle.std.specs.Prelude.{min, List, map}
-use Rattle.policy.specs.Measures.{list_places, work_words}
+use Rattle.meaning.specs.Measures.{list_places, work_words}
 use Rattle.book.specs.Calls.{Call, opening, changing, asking, adding, removing}
 use Rattle.stories.specs.declared.telling.Telling.{Telling}
 use Rattle.stories.specs.declared.telling.Telling.TheVariants.{Open, Change, Ask, Add, Remove}

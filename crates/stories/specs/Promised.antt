@@ -1,8 +1,8 @@
 -- The promise over stories.
 use Rattle.std.specs.Prelude.{ℕ, List, take, MatchOption, Result, MatchResult}
-use Rattle.policy.specs.Measures.{rows}
-use Rattle.policy.specs.Runs.{Change, end}
-use Rattle.policy.specs.Granting.{FreeRows}
+use Rattle.meaning.specs.Measures.{rows}
+use Rattle.meaning.specs.Runs.{Change, end}
+use Rattle.meaning.specs.Rows.{FreeRows}
 use Rattle.deciding.specs.declared.runs.RunStep.{RunStep}
 use Rattle.verdicts.specs.Looking.{changes}
 use Rattle.book.specs.declared.refusal.Refusal.{Refusal}

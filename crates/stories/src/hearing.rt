@@ -1,6 +1,6 @@
 // One call of a story, made on a board.
 ghost use Rattle.std.specs.Prelude.{◌≡◌, ◌≤◌, length};
-ghost use Rattle.policy.specs.Measures.{list_places, work_words};
+ghost use Rattle.meaning.specs.Measures.{list_places, work_words};
 ghost use Rattle.book.specs.Calls.{Step};
 ghost use Rattle.board.specs.View.{says};
 ghost use Rattle.stories.specs.Heard.{heard};
@@ -9,7 +9,7 @@ use crate::numbers::{add, remove};
 use crate::telling::Telling;
 use board::Board;
 use deciding::RunStep;
-use policy::{LIST_PLACES, WORK_WORDS};
+use meaning::{LIST_PLACES, WORK_WORDS};
 
 // Makes the call; of the list and the work table as much is lent as the call says, or all that a call needs.
 pub(crate) fn hear(board: &mut Board, call: Telling, list: &mut [RunStep], work: &mut [u64])

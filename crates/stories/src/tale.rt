@@ -11,7 +11,7 @@ use crate::telling::Telling;
 use board::{Answer, Board};
 use book::Refusal;
 use deciding::RunStep;
-use policy::{LIST_PLACES, WORK_WORDS};
+use meaning::{LIST_PLACES, WORK_WORDS};
 
 // The board at the end of a story, and the answer to the question.
 #[derive(Clone, Copy)]

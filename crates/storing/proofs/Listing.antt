@@ -4,9 +4,9 @@ use mathlib.Core.Path.{subst⁻¹}
 use borrow.Author.Tests.{clash}
 use Rattle.std.proofs.lemmas.Bool.{lt-ltb}
 use Rattle.std.proofs.lemmas.List.{append-nil, take_more, map-append}
-use Rattle.policy.specs.Rules.{Nth}
-use Rattle.policy.proofs.Tests.{first, second, as_true}
-use Rattle.policy.proofs.Numbered.{nth_at}
+use Rattle.meaning.specs.Lists.{Nth}
+use Rattle.meaning.proofs.Tests.{first, second, as_true}
+use Rattle.meaning.proofs.Numbered.{nth_at}
 use Rattle.lines.specs.Entries.{entries}
 use Rattle.pen.specs.Ascending.{ascending}
 use Rattle.pen.specs.declared.writer.Writer.{Writer}

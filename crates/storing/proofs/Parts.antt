@@ -1,7 +1,7 @@
 -- The parts of the book that tables say.
 use Rattle.std.proofs.Common.{◌≡◌, ℕ, ◌&&◌, ◌||◌, ltb, eqb, List, [], ◌∷◌, map, get_or, refl, ap}
-use Rattle.policy.specs.Terms.{regime_of}
-use Rattle.policy.specs.Tests.{listed as named}
+use Rattle.meaning.specs.Terms.{regime_of}
+use Rattle.meaning.specs.Lists.{listed as named}
 use Rattle.rbac.specs.declared.users.User.{User}
 use Rattle.rbac.specs.Roles.{roles_of}
 use Rattle.hierarchy.specs.Edges.{edges_of, no_roles}

@@ -1,7 +1,7 @@
 -- The line of an entry is that of the rule or the requirement that it says.
 use Rattle.std.proofs.Common.{◌≡◌, true, List, ◌++◌, Some, None, codes, decimal, Option, sym, refl, ap, ◌∙◌, ap₂}
 use Rattle.std.proofs.lemmas.Bool.{and_parts, and_from}
-use Rattle.policy.specs.Sets.{UserSet, members, holders, only, nobody, union, intersection, as_condition}
+use Rattle.meaning.specs.Sets.{UserSet, members, holders, only, nobody, union, intersection, as_condition}
 use Rattle.grammar.specs.Phrase.{render}
 use Rattle.grammar.specs.Phrase.{roles_alone as of_roles}
 use Rattle.trees.specs.Reading.{Nodes, listed}

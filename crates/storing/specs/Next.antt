@@ -1,6 +1,6 @@
 -- The least user from a number on who has a row.
 use Rattle.std.specs.Prelude.{ℕ, ◌<◌, ◌≤◌, List, length}
-use Rattle.policy.specs.Measures.{users}
+use Rattle.meaning.specs.Measures.{users}
 use Rattle.tables.specs.declared.entries.Row.{Row}
 use Rattle.tables.specs.Rows.{row_at, Used}
 

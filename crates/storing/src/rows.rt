@@ -1,7 +1,6 @@
 // The lines of users, permissions and senior roles, each with the roles beside it.
 ghost use Rattle.std.specs.Prelude.{codes};
-ghost use Rattle.policy.specs.Measures.{users, permissions};
-ghost use Rattle.policy.specs.Measures.{roles as all_roles};
+ghost use Rattle.meaning.specs.Measures.{users, permissions, roles as all_roles};
 ghost use Rattle.pen.specs.Puts.{Wrote};
 ghost use Rattle.boardtext.specs.Canonical.{row_lines};
 ghost use Rattle.tables.specs.View.{state_of, policy_of};
@@ -9,8 +8,8 @@ ghost use Rattle.storing.specs.Next.{Next};
 
 use crate::entry::put_row;
 use lines::Change;
+use meaning::{ROLES, USERS};
 use pen::Writer;
-use policy::{ROLES, USERS};
 use rbac::{Permission, Role, User};
 use tables::{Row, Tables};
 

@@ -1,8 +1,7 @@
 // The lines of the trusted, of rules and of requirements.
 ghost use Rattle.std.specs.Prelude.{ℕ, ◌<◌, T, map, Decides};
-ghost use Rattle.policy.specs.Measures.{users as all_users};
-ghost use Rattle.policy.specs.Rules.{Nth};
-ghost use Rattle.policy.specs.Tests.{listed as named};
+ghost use Rattle.meaning.specs.Measures.{users as all_users};
+ghost use Rattle.meaning.specs.Lists.{Nth, listed as named};
 ghost use Rattle.lines.specs.Lists.{number_of};
 ghost use Rattle.pen.specs.Puts.{Wrote};
 ghost use Rattle.pen.specs.Ascending.{ascending};
@@ -15,8 +14,8 @@ ghost use Rattle.drafts.specs.Neat.{OfSet};
 
 use crate::entry::put;
 use lines::{Change, Extra};
+use meaning::USERS;
 use pen::Writer;
-use policy::USERS;
 use rbac::User;
 use tables::{AssignEntry, Demand, Needs, RequirementEntry, RevokeEntry, Tables};
 

@@ -8,8 +8,8 @@ ghost use Rattle.drafts.specs.Neat.{Neat};
 
 use crate::rows::{put_edges, put_gifts, put_users};
 use crate::rules::{put_assigns, put_requirements, put_revokes, put_trust};
+use meaning::Regime;
 use pen::Writer;
-use policy::Regime;
 use saving::place::size;
 use tables::Tables;
 

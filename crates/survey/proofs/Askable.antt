@@ -1,11 +1,9 @@
 -- Two sets that a line asks about can be asked.
 use Rattle.std.proofs.Common.{◌≡◌, ℕ, ◌+◌, ◌<◌, ◌≤◌, true, false, ◌&&◌, T, eqb, leb, length, sym, subst, inl, inr, arith, eqb→eq, ltb→lt, leb→le, length-append}
-use Rattle.policy.specs.Tests.{listed}
-use Rattle.policy.specs.Membership.{User, IsUser}
-use Rattle.policy.specs.Sets.{UserSet, members, holders, only, nobody, union, intersection}
-use Rattle.policy.specs.Hire.{named}
-use Rattle.policy.specs.Verdicts.{Askable}
-use Rattle.policy.proofs.Tests.{either, first, second, as_test, listed_either}
+use Rattle.meaning.specs.Lists.{listed}
+use Rattle.meaning.specs.Membership.{User, IsUser}
+use Rattle.meaning.specs.Sets.{UserSet, members, holders, only, nobody, union, intersection, named, Askable}
+use Rattle.meaning.proofs.Tests.{either, first, second, as_test, listed_either}
 use Rattle.grammar.specs.Phrase.{meaning, operands, in_range}
 use Rattle.lines.specs.Bodies.{Sides, sides, question_of}
 use Rattle.survey.proofs.Fixed.{is_semi_static}

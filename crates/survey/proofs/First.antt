@@ -9,8 +9,8 @@ use Rattle.lines.specs.Languages.{Refuses, number_of, Unrefused}
 use Rattle.lines.specs.Lines.{lines}
 use Rattle.texts.specs.declared.faults.Fault.{Fault}
 use Rattle.texts.specs.declared.faults.Fault.TheVariants.{TooLong, Mark, InLine}
-use Rattle.policy.specs.declared.terms.Regime.{Regime}
-use Rattle.policy.specs.declared.terms.Regime.TheVariants.{Aatu, Aar}
+use Rattle.meaning.specs.declared.terms.Regime.{Regime}
+use Rattle.meaning.specs.declared.terms.Regime.TheVariants.{Aatu, Aar}
 use Rattle.texts.specs.Board.{goes_on, unbroken, Cut, mark_line, regime_line, longest, BadLine, Comes}
 use Rattle.lines.specs.declared.change.Extra.{Extra}
 use Rattle.survey.specs.Whole.{Refused, here, endless, later, WholeFault, Before, WholeText}

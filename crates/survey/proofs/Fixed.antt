@@ -2,7 +2,7 @@
 use Rattle.std.proofs.Common.{◌≡◌, Bool, true, false, ◌||◌, ◌⊎◌, Decides, refl, inl, inr, ⊎_elim}
 use borrow.Author.Tests.{clash}
 use Rattle.std.proofs.lemmas.Bool.{and_parts, and_from, or_left, or_right}
-use Rattle.policy.specs.Sets.{UserSet, members, holders, only, nobody, union, intersection, Static, SemiStatic}
+use Rattle.meaning.specs.Sets.{UserSet, members, holders, only, nobody, union, intersection, Static, SemiStatic}
 use Rattle.grammar.specs.Phrase.{static, meaning}
 use Rattle.lines.specs.Bodies.{Sides, sides}
 use Rattle.lines.specs.Bodies.{question_of}

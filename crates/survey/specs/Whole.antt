@@ -6,7 +6,7 @@ use Rattle.lines.specs.Languages.{Refuses, number_of}
 use Rattle.lines.specs.Lines.{lines}
 use Rattle.texts.specs.declared.faults.Fault.{Fault}
 use Rattle.texts.specs.declared.faults.Fault.TheVariants.{TooLong, Mark, InLine}
-use Rattle.policy.specs.declared.terms.Regime.{Regime}
+use Rattle.meaning.specs.declared.terms.Regime.{Regime}
 use Rattle.texts.specs.Board.{unbroken, Cut, mark_line, regime_line, longest}
 
 -- in a text whose line n begins here, line m is refused on this ground: it is no line, or nothing ends it

@@ -2,14 +2,14 @@
 #![tactic(auto)]
 
 ghost use Rattle.std.specs.Prelude.{Decides};
-ghost use Rattle.policy.specs.Sets.{SemiStatic};
+ghost use Rattle.meaning.specs.Sets.{SemiStatic};
 ghost use Rattle.lines.specs.Bodies.{Sides, sides};
 ghost use Rattle.survey.specs.Whole.{WholeText};
 ghost use Rattle.lines.specs.Bodies.{question_of};
 
 use grammar::Reader;
 use lines::Extra;
-use policy::Regime;
+use meaning::Regime;
 use texts::Fault;
 use texts::board::{begin, next};
 

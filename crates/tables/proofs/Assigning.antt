@@ -2,7 +2,7 @@
 use Rattle.std.proofs.Common.{◌≡◌, ℕ, ◌<◌, not, ◌&&◌, ◌||◌, Bool, eqb, T, ◌≢◌, ◌⊎◌, List, length, set, sym, ap, ◌∙◌, subst, inl, inr, ⊎_elim, arith, length-set, get_or-set_other, get_or-set_same, eqb→eq}
 use mathlib.Core.Path.{subst⁻¹}
 use Rattle.std.proofs.lemmas.Bool.{cases_eq}
-use Rattle.policy.proofs.Tests.{either, or_left, or_right, first, second, both, deny, agree}
+use Rattle.meaning.proofs.Tests.{either, or_left, or_right, first, second, both, deny, agree}
 use Rattle.tables.specs.declared.entries.Row.{Row}
 use Rattle.tables.specs.View.{assigned}
 use Rattle.tables.specs.Rows.{row_at, no_row, Used, Clash, pairs}

@@ -5,14 +5,13 @@ use lib.ListN.{get_or-replicate, length-replicate}
 use Rattle.std.proofs.lemmas.List.{get_or_past}
 use Rattle.std.proofs.lemmas.Bool.{cases_lt}
 use Rattle.words.proofs.Bits.{bit_none}
-use Rattle.policy.specs.Membership.{Edges}
-use Rattle.policy.specs.Rules.{AssignRule, RevokeRule, Policy, aatu}
-use Rattle.policy.specs.Rules.{Regime as RegimeMeant}
-use Rattle.policy.specs.declared.terms.Regime.TheVariants.{Aatu as aatu_here}
+use Rattle.meaning.specs.Membership.{Edges}
+use Rattle.meaning.specs.Rules.{AssignRule, RevokeRule, Policy, aatu, Regime as RegimeMeant}
+use Rattle.meaning.specs.declared.terms.Regime.TheVariants.{Aatu as aatu_here}
 use Rattle.rbac.specs.declared.sets.RoleSet.{RoleSet}
 use Rattle.rbac.specs.Roles.{roles_of, no_role}
 use Rattle.hierarchy.specs.Edges.{edges_of, no_roles, no_edge}
-use Rattle.policy.specs.Terms.{regime_of}
+use Rattle.meaning.specs.Terms.{regime_of}
 use Rattle.tables.specs.declared.entries.Row.{Row}
 use Rattle.tables.specs.declared.tables.Tables.{Tables}
 use Rattle.bounded.specs.Entries.{entries}

@@ -1,8 +1,8 @@
 -- Entries by their numbers.
 use Rattle.std.proofs.Common.{◌≡◌, ℕ, suc, ◌+◌, ◌<◌, Bool, true, false, ◌||◌, T, List, [], ◌∷◌, ◌++◌, map, length, get_or, take, sym, refl, ap, ◌∙◌, ⊎_elim}
 use Rattle.std.proofs.lemmas.List.{take_more}
-use Rattle.policy.specs.Rules.{Nth, first, later}
-use Rattle.policy.proofs.Tests.{either, or_left, or_right}
+use Rattle.meaning.specs.Lists.{Nth, first, later}
+use Rattle.meaning.proofs.Tests.{either, or_left, or_right}
 
 -- some entry passes the test with this number
 abbrev pub any : {A : Type 0} → (A → ℕ → Bool) → List A → ℕ → Bool

@@ -1,9 +1,9 @@
 -- The rows of a user are the user's part of the state.
 use Rattle.std.proofs.Common.{◌≡◌, ℕ, ◌<◌, Bool, ◌&&◌, ◌||◌, T, ltb, List, [], ◌∷◌, Decides, sym, refl, ap, ◌∙◌, subst, lt→ltb}
 use mathlib.Core.Path.{subst⁻¹, fun_ext}
-use Rattle.policy.specs.Membership.{Member}
-use Rattle.policy.specs.Sets.{HasPermission}
-use Rattle.policy.proofs.Tests.{as_true, as_test}
+use Rattle.meaning.specs.Membership.{Member}
+use Rattle.meaning.specs.Sets.{HasPermission}
+use Rattle.meaning.proofs.Tests.{as_true, as_test}
 use Rattle.rbac.specs.declared.sets.RoleSet.{RoleSet}
 use Rattle.rbac.specs.Roles.{roles_of}
 use Rattle.tables.specs.declared.entries.Row.{Row}

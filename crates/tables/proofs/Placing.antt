@@ -1,8 +1,9 @@
 -- Rows by their places, and what the state says of them.
 use Rattle.std.proofs.Common.{◌≡◌, ℕ, zero, suc, ◌<◌, ◌≤◌, Bool, true, false, not, ◌&&◌, T, eqb, List, [], ◌∷◌, length, Decides, sym, refl, subst, ⊎_elim, not-suc-le-zero, arith}
 use Rattle.std.proofs.lemmas.Bool.{cases_lt, both_ways}
-use Rattle.policy.specs.Tests.{some}
-use Rattle.policy.proofs.Tests.{either, or_left, or_right, as_true, as_test, some_at, some_gives}
+use Rattle.theory.specs.Tests.{some}
+use Rattle.meaning.proofs.Tests.{either, or_left, or_right, as_true, as_test}
+use Rattle.theory.proofs.Tests.{some_at, some_gives}
 use Rattle.rbac.specs.Roles.{roles_of}
 use Rattle.rbac.proofs.Masks.{roles_past}
 use Rattle.tables.specs.declared.entries.Row.{Row}

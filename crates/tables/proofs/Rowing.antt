@@ -7,12 +7,10 @@ use Rattle.std.specs.List.{position_or_len}
 use Rattle.std.proofs.lemmas.Grind.{common_steps}
 use Rattle.std.proofs.lemmas.List.Sums.{fails_before_first}
 use Rattle.std.proofs.lemmas.List.Quantifiers.{position-Some}
-use Rattle.policy.specs.Bounds.{Holder}
-use Rattle.policy.specs.Granting.{FreeRow, Holders}
-use Rattle.policy.specs.Granting.{Apart as ApartUsers}
-use Rattle.policy.specs.Tests.{listed}
-use Rattle.policy.proofs.Tests.{either, or_left, or_right, first, second, both, deny, as_test}
-use Rattle.policy.proofs.Turns.{free_row}
+use Rattle.meaning.specs.Rows.{Holder, FreeRow, Holders}
+use Rattle.meaning.specs.Lists.{Apart as ApartUsers, listed}
+use Rattle.meaning.proofs.Tests.{either, or_left, or_right, first, second, both, deny, as_test}
+use Rattle.theory.proofs.Turns.{free_row}
 use Rattle.rbac.specs.declared.users.User.{User}
 use Rattle.rbac.specs.declared.sets.RoleSet.{RoleSet}
 use Rattle.rbac.specs.Roles.{roles_of}

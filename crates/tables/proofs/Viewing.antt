@@ -1,7 +1,7 @@
 -- The parts of the policy that the tables say, as lists of their entries.
 use Rattle.std.proofs.Common.{◌≡◌, ℕ, ◌<◌, ◌&&◌, T, ltb, map, sym, refl, ap, lt→ltb}
-use Rattle.policy.proofs.Tests.{second, as_true}
-use Rattle.policy.specs.Terms.{regime_of}
+use Rattle.meaning.proofs.Tests.{second, as_true}
+use Rattle.meaning.specs.Terms.{regime_of}
 use Rattle.tables.specs.declared.tables.Tables.{Tables}
 use Rattle.bounded.specs.Entries.{entries}
 use Rattle.tables.specs.View.{policy_of, assign_of, names}

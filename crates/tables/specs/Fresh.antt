@@ -1,7 +1,7 @@
 -- A new board: under aatu, and nothing else.
 use Rattle.std.specs.Prelude.{false, []}
-use Rattle.policy.specs.Membership.{State}
-use Rattle.policy.specs.Rules.{Policy, aatu}
+use Rattle.meaning.specs.Membership.{State}
+use Rattle.meaning.specs.Rules.{Policy, aatu}
 
 -- no role is assigned to anybody
 abbrev pub nothing_assigned : State

@@ -1,11 +1,9 @@
 -- What happens to the rows when one of them is changed, and to the state that they say.
 use Rattle.std.specs.Prelude.{◌≡◌, ℕ, ◌<◌, Bool, not, ◌&&◌, ◌||◌, T, List, length, Result, MatchResult, ◌==◌, slice_index_or, slice_set}
-use Rattle.policy.specs.Measures.{roles}
-use Rattle.policy.specs.Membership.{State}
-use Rattle.policy.specs.Membership.{User as UserNumber, Role as RoleNumber, Row as RoleRow}
-use Rattle.policy.specs.Bounds.{Holder}
-use Rattle.policy.specs.Granting.{FreeRow}
-use Rattle.policy.specs.Tests.{some}
+use Rattle.meaning.specs.Measures.{roles}
+use Rattle.meaning.specs.Membership.{State, User as UserNumber, Role as RoleNumber, Row as RoleRow}
+use Rattle.meaning.specs.Rows.{Holder, FreeRow}
+use Rattle.theory.specs.Tests.{some}
 use Rattle.rbac.specs.declared.users.User.{User}
 use Rattle.rbac.specs.declared.sets.RoleSet.{RoleSet}
 use Rattle.rbac.specs.Roles.{roles_of, one_role, of_either, of_first}

@@ -1,11 +1,11 @@
 -- What the tables say: a state, a policy and standing requirements, in the words of the meaning. Everything above the tables speaks of these alone.
 use Rattle.std.specs.Prelude.{ℕ, Bool, false, ◌&&◌, ◌||◌, List, [], ◌∷◌, map, Some, None, Option, ◌==◌, nat_lt, slice_index_or}
-use Rattle.policy.specs.Measures.{users}
-use Rattle.policy.specs.Membership.{State}
-use Rattle.policy.specs.Rules.{Condition, everybody, AssignRule, RevokeRule, Policy}
-use Rattle.policy.specs.Sets.{UserSet, nobody, as_condition, Question}
-use Rattle.policy.specs.Requirements.{Requirement, always, never}
-use Rattle.policy.specs.Terms.{regime_of}
+use Rattle.meaning.specs.Measures.{users}
+use Rattle.meaning.specs.Membership.{State}
+use Rattle.meaning.specs.Rules.{Condition, everybody, AssignRule, RevokeRule, Policy}
+use Rattle.meaning.specs.Sets.{UserSet, nobody, as_condition, Question}
+use Rattle.meaning.specs.Requirements.{Requirement, always, never}
+use Rattle.meaning.specs.Terms.{regime_of}
 use Rattle.rbac.specs.declared.users.User.{User}
 use Rattle.rbac.specs.Roles.{roles_of}
 use Rattle.hierarchy.specs.Edges.{edges_of, no_roles}

@@ -9,7 +9,7 @@ use crate::entries::{AssignEntry, Demand, Needs, RequirementEntry, RevokeEntry, 
 use crate::tables::Tables;
 use bounded::Bounded;
 use hierarchy::Hierarchy;
-use policy::{PERMISSIONS, ROWS, Regime};
+use meaning::{PERMISSIONS, ROWS, Regime};
 use rbac::{Role, RoleSet, User};
 use trees::no_nodes;
 

@@ -1,7 +1,7 @@
 // Of which roles a user is a member, and which permissions that gives.
 ghost use Rattle.std.specs.Prelude.{◌≡◌, ℕ, ◌&&◌, Decides, ◌==◌};
-ghost use Rattle.policy.specs.Membership.{Member};
-ghost use Rattle.policy.specs.Sets.{HasPermission};
+ghost use Rattle.meaning.specs.Membership.{Member};
+ghost use Rattle.meaning.specs.Sets.{HasPermission};
 ghost use Rattle.rbac.specs.Roles.{roles_of};
 ghost use Rattle.tables.specs.View.{state_of, policy_of};
 

@@ -1,7 +1,7 @@
 // Rows: one is found by its user, lent for a change, and free again when its last role goes.
 ghost use Rattle.std.specs.Prelude.{◌≡◌, ◌<◌, true, false, not, ◌&&◌, nat_lt, position, MatchOption};
 ghost use Rattle.std.specs.Fn.{FnOnceReturnsAtMut};
-ghost use Rattle.policy.specs.Measures.{users, rows};
+ghost use Rattle.meaning.specs.Measures.{users, rows};
 ghost use Rattle.tables.specs.Rows.{Given, Taken, Lent, is_used, is_of, AllAssigned, AllUnassigned, Assigned, Unassigned};
 ghost use Rattle.rbac.specs.Roles.{roles_of};
 

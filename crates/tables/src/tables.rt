@@ -2,7 +2,7 @@
 use crate::entries::{AssignEntry, RequirementEntry, RevokeEntry, Row};
 use bounded::Bounded;
 use hierarchy::Hierarchy;
-use policy::{ASSIGN_RULES, PERMISSIONS, REQUIREMENTS, REVOKE_RULES, ROWS, Regime, TRUSTED_USERS};
+use meaning::{ASSIGN_RULES, PERMISSIONS, REQUIREMENTS, REVOKE_RULES, ROWS, Regime, TRUSTED_USERS};
 use rbac::{RoleSet, User};
 
 #[derive(Clone, Copy)]

@@ -1,6 +1,6 @@
 // Each function takes one promise to its edges.
 use hierarchy::Edge;
-use policy::Regime;
+use meaning::Regime;
 use rbac::{Permission, Role, RoleSet, User};
 use soundness::{
     Valid, admins_are_assigned, admins_are_no_targets, assignable_is_revocable, conditions_whole,

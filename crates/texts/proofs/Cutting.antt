@@ -4,8 +4,8 @@ use borrow.Author.Tests.{clash}
 use Rattle.std.proofs.lemmas.Bool.{and_from}
 use Rattle.std.proofs.lemmas.List.{take-append-drop, take_all, append_cancel_left}
 use Rattle.grammar.specs.Text.{run, Takes}
-use Rattle.policy.specs.declared.terms.Regime.{Regime}
-use Rattle.policy.specs.declared.terms.Regime.TheVariants.{Aatu, Aar}
+use Rattle.meaning.specs.declared.terms.Regime.{Regime}
+use Rattle.meaning.specs.declared.terms.Regime.TheVariants.{Aatu, Aar}
 use Rattle.texts.specs.Board.{goes_on, unbroken, Cut, mark_line, regime_line}
 
 -- all before the end of a line goes on

@@ -15,8 +15,8 @@ use Rattle.texts.specs.declared.faults.Fault.TheVariants.{TooLong, Mark, InLine}
 use Rattle.texts.specs.declared.faults.Way.{Way}
 use Rattle.texts.specs.declared.faults.Way.TheVariants.{Add, Remove}
 use Rattle.texts.specs.Answers.{told, Faulty, Answer, Asks, asks_possible, asks_necessary, Changing, sign_of, changes}
-use Rattle.policy.specs.declared.terms.Kind.{Kind}
-use Rattle.policy.specs.declared.terms.Kind.TheVariants.{Possible, Necessary}
+use Rattle.meaning.specs.declared.terms.Kind.{Kind}
+use Rattle.meaning.specs.declared.terms.Kind.TheVariants.{Possible, Necessary}
 use Rattle.lines.specs.Readings.{TwoSides}
 use Rattle.texts.specs.Words.{Starts}
 use Rattle.texts.specs.Sentences.{Lined, Asked, Changed}

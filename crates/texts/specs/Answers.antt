@@ -7,8 +7,8 @@ use Rattle.lines.specs.Lines.{bodies, Sentence, lines, Sided, Means}
 use Rattle.texts.specs.declared.faults.Fault.{Fault}
 use Rattle.texts.specs.declared.faults.Fault.TheVariants.{TooLong, Mark, InLine}
 use Rattle.texts.specs.declared.faults.Order.{Order}
-use Rattle.policy.specs.declared.terms.Kind.{Kind}
-use Rattle.policy.specs.declared.terms.Kind.TheVariants.{Possible, Necessary}
+use Rattle.meaning.specs.declared.terms.Kind.{Kind}
+use Rattle.meaning.specs.declared.terms.Kind.TheVariants.{Possible, Necessary}
 use Rattle.texts.specs.declared.faults.Way.{Way}
 use Rattle.texts.specs.declared.faults.Way.TheVariants.{Add, Remove}
 

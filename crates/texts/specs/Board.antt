@@ -9,8 +9,8 @@ use Rattle.lines.specs.Lines.{lines, Line}
 use Rattle.texts.specs.declared.faults.Fault.{Fault}
 use Rattle.texts.specs.declared.faults.Fault.TheVariants.{TooLong, Mark, InLine}
 use Rattle.lines.specs.declared.change.Change.{Change}
-use Rattle.policy.specs.declared.terms.Regime.{Regime}
-use Rattle.policy.specs.declared.terms.Regime.TheVariants.{Aatu, Aar}
+use Rattle.meaning.specs.declared.terms.Regime.{Regime}
+use Rattle.meaning.specs.declared.terms.Regime.TheVariants.{Aatu, Aar}
 
 -- a byte that does not end a line
 abbrev pub goes_on : ℕ → Bool

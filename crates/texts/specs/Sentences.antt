@@ -5,7 +5,7 @@ use Rattle.lines.specs.declared.change.Extra.{Extra}
 use Rattle.lines.specs.Languages.{Language, Least, Unrefused, Told}
 use Rattle.lines.specs.Lines.{questions}
 use Rattle.texts.specs.declared.faults.Order.{Order}
-use Rattle.policy.specs.declared.terms.Kind.{Kind}
+use Rattle.meaning.specs.declared.terms.Kind.{Kind}
 use Rattle.texts.specs.Answers.{Asks, changes, Orders}
 
 -- the answer to a text that is one form of a language

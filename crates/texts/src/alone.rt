@@ -11,7 +11,7 @@ use crate::line::{begins, read_line};
 use grammar::{Ground, Reader};
 use lines::sides::sides;
 use lines::{Extra, Keyword};
-use policy::Kind;
+use meaning::Kind;
 
 const LONGEST: usize = 1024;
 

@@ -8,7 +8,7 @@ use crate::line::read_line;
 use grammar::read::run_length;
 use grammar::{Ground, Reader};
 use lines::{Change, Extra};
-use policy::Regime;
+use meaning::Regime;
 
 const LONGEST: usize = 65536;
 

@@ -2,7 +2,7 @@
 use Rattle.std.proofs.Common.{◌≡◌, ℕ, ◌+◌, ◌-◌, ◌*◌, ◌<◌, ◌≤◌, true, false, ltb, List, [], ◌∷◌, ◌++◌, length, decimal, sym, refl, ap, ◌∙◌, subst, append_assoc, arith, length-append, lt-ltb}
 use Rattle.std.proofs.lemmas.Bool.{cond-true, and_parts}
 use Rattle.grammar.specs.Text.{begins, begins_digit, got, none}
-use Rattle.policy.specs.Sets.{UserSet, members, holders, only, nobody, union, intersection}
+use Rattle.meaning.specs.Sets.{UserSet, members, holders, only, nobody, union, intersection}
 use Rattle.grammar.specs.Phrase.{Kind, set, term, factor, users, Phrase, one, or, lone, and, a_role, a_permission, no_users, braces, parens, a_user, also, render, meaning, levels, operands, in_range, Short, Written, Ends}
 use Rattle.grammar.proofs.Numbers.{number_written}
 use Rattle.trees.specs.declared.nodes.Node.{Node}

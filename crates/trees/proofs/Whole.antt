@@ -3,7 +3,7 @@ use Rattle.std.proofs.Common.{◌≡◌, ℕ, ◌+◌, ◌-◌, ◌<◌, ◌≤�
 use borrow.Author.Tests.{clash}
 use Rattle.std.proofs.lemmas.List.{drop_more, drop_all}
 use Rattle.std.proofs.lemmas.Bool.{cond-true, cond-false}
-use Rattle.policy.specs.Sets.{UserSet, members, holders, only, nobody, union, intersection}
+use Rattle.meaning.specs.Sets.{UserSet, members, holders, only, nobody, union, intersection}
 use Rattle.trees.specs.declared.nodes.Node.{Node}
 use Rattle.trees.specs.declared.nodes.Node.TheVariants.{Role, Permission, User, Nobody, Or, And}
 use Rattle.trees.specs.Reading.{postfix}

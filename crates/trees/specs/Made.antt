@@ -1,6 +1,6 @@
 -- What the check of plain nodes answers.
 use Rattle.std.specs.Prelude.{◌≡◌, Some, None, Option, ◌≢◌}
-use Rattle.policy.specs.Sets.{UserSet}
+use Rattle.meaning.specs.Sets.{UserSet}
 use Rattle.trees.specs.declared.tree.UserTree.{UserTree}
 use Rattle.trees.specs.Reading.{postfix, Nodes, listed}
 

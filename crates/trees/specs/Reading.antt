@@ -1,7 +1,7 @@
 -- How a set is read into nodes: an executable reading on lists.
 use Rattle.std.specs.Prelude.{◌≡◌, ℕ, zero, suc, ◌≤◌, true, cond, List, [], ◌∷◌, ◌++◌, length, Some, None, Ok, Err, Option, Result, ◌==◌, nat_lt}
 use Rattle.grammar.specs.Text.{Read, got, none, number}
-use Rattle.policy.specs.Sets.{UserSet, members, holders, only, nobody, union, intersection}
+use Rattle.meaning.specs.Sets.{UserSet, members, holders, only, nobody, union, intersection}
 use Rattle.grammar.specs.Phrase.{set, Phrase, meaning, levels, operands, in_range, Written, Ends}
 use Rattle.bounded.specs.Entries.{entries}
 use Rattle.bounded.specs.declared.bounded.Bounded.{Bounded}

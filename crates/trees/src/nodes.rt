@@ -2,7 +2,7 @@ ghost use Rattle.std.specs.Prelude.{◌≡◌, []};
 ghost use Rattle.trees.specs.Reading.{listed};
 
 use bounded::Bounded;
-use policy::QUESTION_OPERANDS;
+use meaning::QUESTION_OPERANDS;
 
 // How many nodes a set has at most: its operands, and the operators between them.
 pub const NODES: usize = 2 * QUESTION_OPERANDS - 1;

@@ -6,7 +6,7 @@ ghost use Rattle.trees.specs.declared.nodes.Node.{Node as ANode};
 
 use crate::nodes::{Node, Nodes, no_nodes};
 use grammar::{Ground, Reader};
-use policy::{PERMISSIONS, ROLES, USERS};
+use meaning::{PERMISSIONS, ROLES, USERS};
 
 // A reader, and the nodes of what it has read.
 #[derive(Drop)]

@@ -4,20 +4,21 @@ use mathlib.Core.Path.{subst⁻¹}
 use Rattle.words.specs.Words.{bits}
 use Rattle.steps.specs.Steps.{new}
 use Rattle.steps.specs.Closing.{Closed}
-use Rattle.policy.specs.Membership.{User, Role, State}
-use Rattle.policy.specs.Rules.{Policy}
-use Rattle.policy.specs.Sets.{Question, Holds}
-use Rattle.policy.specs.Runs.{Change, adds, removes, moves, end}
-use Rattle.policy.specs.Reach.{revocable, floor}
-use Rattle.policy.specs.Bounds.{Holder}
-use Rattle.policy.specs.Hire.{Tracking, Looked, Each, Closing}
-use Rattle.policy.specs.Verdicts.{HoldsHere}
-use Rattle.policy.specs.Delegation.{Slots, state_of, is_looked, row_at, delegation, IsRun}
-use Rattle.policy.specs.Terms.{Asked}
-use Rattle.policy.specs.declared.terms.Place.TheVariants.{Floor, Top}
-use Rattle.policy.proofs.Tests.{first}
-use Rattle.policy.proofs.Delegate.{lawful, recorded, is_run, unlook}
-use Rattle.policy.proofs.Closes.{closes}
+use Rattle.meaning.specs.Membership.{User, Role, State}
+use Rattle.meaning.specs.Rules.{Policy}
+use Rattle.meaning.specs.Sets.{Question, Holds}
+use Rattle.meaning.specs.Runs.{Change, adds, removes, moves, end}
+use Rattle.theory.specs.Reach.{revocable, floor}
+use Rattle.meaning.specs.Rows.{Holder}
+use Rattle.theory.specs.Hire.{Tracking, Looked, Closing}
+use Rattle.meaning.specs.Witnesses.{Each}
+use Rattle.theory.specs.Verdicts.{HoldsHere}
+use Rattle.theory.specs.Delegation.{Slots, state_of, is_looked, row_at, delegation, IsRun}
+use Rattle.meaning.specs.Terms.{IsYes}
+use Rattle.theory.specs.declared.place.Place.TheVariants.{Floor, Top}
+use Rattle.meaning.proofs.Tests.{first}
+use Rattle.theory.proofs.Delegate.{lawful, recorded, is_run, unlook}
+use Rattle.theory.proofs.Closes.{closes}
 use Rattle.deciding.specs.declared.runs.RunStep.{RunStep}
 use Rattle.deciding.specs.declared.plan.Plan.{Plan}
 use Rattle.deciding.specs.Masked.{down_of}
@@ -82,7 +83,7 @@ module _ (p : Policy) (s : State) (q : Question) (plan : Plan) (z : Ready p s q 
     lawful = w.lawful;
     one_way = inr w.removing;
     names = each_more (Holder s) (λ u. T (seated (slots_of plan) u)) (λ u (r, h). holder_seated p s q plan z u r h) (changes false (take n xs)) w.rowed;
-    decided = λ kind fixed at st. subst⁻¹ (λ t. Asked kind p s q ↔ Holds p t q) ending
+    decided = λ kind fixed at st. subst⁻¹ (λ t. IsYes kind p s q ↔ Holds p t q) ending
         (both_sides (at p s z.measured z.regular k q (covers p s q (slots_of plan) (few plan.slots) z.planned) topped.0 topped.1 st)
         (all_users (floor p s) (λ u r h. seated_looked p s q (slots_of plan) (few plan.slots) z.planned u (holder_seated p s q plan z u r (first (s u r) (not (revocable p.revokes r)) h)))));
   }

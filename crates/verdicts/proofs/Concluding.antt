@@ -3,16 +3,16 @@ use Rattle.std.proofs.Common.{◌≡◌, ℕ, ◌≤◌, Bool, not, List, ◌++�
 use Rattle.std.proofs.lemmas.List.{take-take, length-take-le}
 use Rattle.std.proofs.Math.Seq.{take-length, take-append_seam, drop-append_seam}
 use mathlib.Core.Path.{subst⁻¹}
-use Rattle.policy.specs.Membership.{State}
-use Rattle.policy.specs.Rules.{Policy}
-use Rattle.policy.specs.Sets.{Question, Static}
-use Rattle.policy.specs.Runs.{moves, end}
-use Rattle.policy.specs.Verdicts.{Shows}
-use Rattle.policy.specs.Asking.{VerdictExact}
-use Rattle.policy.specs.Terms.{side}
-use Rattle.policy.specs.declared.terms.Kind.{Kind}
-use Rattle.policy.specs.declared.terms.Side.{Side}
-use Rattle.policy.specs.declared.terms.Place.{Place}
+use Rattle.meaning.specs.Membership.{State}
+use Rattle.meaning.specs.Rules.{Policy}
+use Rattle.meaning.specs.Sets.{Question, Static}
+use Rattle.meaning.specs.Runs.{moves, end}
+use Rattle.meaning.specs.Witnesses.{Shows}
+use Rattle.theory.specs.Asking.{VerdictExact}
+use Rattle.meaning.specs.Terms.{side}
+use Rattle.meaning.specs.declared.terms.Kind.{Kind}
+use Rattle.meaning.specs.declared.terms.Side.{Side}
+use Rattle.theory.specs.declared.place.Place.{Place}
 use Rattle.deciding.specs.declared.runs.RunStep.{RunStep}
 use Rattle.deciding.specs.declared.plan.Plan.{Plan}
 use Rattle.deciding.specs.Slots.{slots_of}

@@ -3,9 +3,10 @@ use Rattle.std.proofs.Common.{◌≡◌, ℕ, zero, suc, ◌+◌, ◌<◌, Bool,
 use Rattle.std.specs.List.{position_from}
 use Rattle.std.proofs.lemmas.List.Quantifiers.{position-Some}
 use Rattle.std.proofs.lemmas.Iterator.Adapters.{position_from-zero}
-use Rattle.policy.specs.Rules.{RevokeRule, Nth, first, later}
-use Rattle.policy.specs.Reach.{revocable}
-use Rattle.policy.proofs.Tests.{as_test}
+use Rattle.meaning.specs.Rules.{RevokeRule}
+use Rattle.meaning.specs.Lists.{Nth, first, later}
+use Rattle.theory.specs.Reach.{revocable}
+use Rattle.meaning.proofs.Tests.{as_test}
 use Rattle.rbac.specs.Roles.{roles_of}
 use Rattle.tables.specs.declared.entries.RevokeEntry.{RevokeEntry}
 use Rattle.bounded.specs.Entries.{entries}

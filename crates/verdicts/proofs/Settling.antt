@@ -3,20 +3,20 @@ use Rattle.std.proofs.Common.{◌≡◌, ℕ, zero, suc, ◌<◌, ◌≤◌, Boo
 use mathlib.Core.Bool.{beq}
 use mathlib.Core.Logic.{⊎_map}
 use Rattle.std.proofs.lemmas.Bool.{both_ways}
-use Rattle.policy.specs.Tests.{listed}
-use Rattle.policy.specs.Membership.{User, State}
-use Rattle.policy.specs.Rules.{Policy}
-use Rattle.policy.specs.Sets.{Question, Holds}
-use Rattle.policy.specs.Runs.{Change, adds, removes, after, Moves, moves, Run, end}
-use Rattle.policy.specs.Bounds.{Holder, Measured}
-use Rattle.policy.specs.Hire.{names, OnlyAdds, OnlyRemoves, Each}
-use Rattle.policy.specs.Verdicts.{Shows}
-use Rattle.policy.specs.Terms.{Asked}
-use Rattle.policy.specs.declared.terms.Kind.{Kind}
-use Rattle.policy.specs.declared.terms.Kind.TheVariants.{Possible, Necessary}
-use Rattle.policy.specs.declared.terms.Place.{Place}
-use Rattle.policy.proofs.Deciding.{holds?}
-use Rattle.policy.proofs.Tests.{as_true}
+use Rattle.meaning.specs.Lists.{listed}
+use Rattle.meaning.specs.Membership.{User, State}
+use Rattle.meaning.specs.Rules.{Policy}
+use Rattle.meaning.specs.Sets.{Question, Holds, names}
+use Rattle.meaning.specs.Runs.{Change, adds, removes, after, Moves, moves, Run, end}
+use Rattle.meaning.specs.Rows.{Holder}
+use Rattle.theory.specs.Bounds.{Measured}
+use Rattle.meaning.specs.Witnesses.{OnlyAdds, OnlyRemoves, Each, Shows}
+use Rattle.meaning.specs.Terms.{IsYes}
+use Rattle.meaning.specs.declared.terms.Kind.{Kind}
+use Rattle.meaning.specs.declared.terms.Kind.TheVariants.{Possible, Necessary}
+use Rattle.theory.specs.declared.place.Place.{Place}
+use Rattle.theory.proofs.Deciding.{holds?}
+use Rattle.meaning.proofs.Tests.{as_true}
 use Rattle.rbac.specs.Roles.{roles_of}
 use Rattle.trees.specs.Reading.{listed as nodes_of}
 use Rattle.trees.proofs.Whole.{whole_balanced}
@@ -113,12 +113,12 @@ module _ (p : Policy) (s : State) (q : Question) (plan : Plan) (z : Ready p s q 
       front = changes_take up m n run l
 
 -- a run that shows what is sought decides the question
-pub shown_exact : (kind : Kind) (p : Policy) (s : State) (q : Question) (run : List Change) → Run (moves p) s run → Sought (sought_by kind) p q (end s run) → Decides (sought_by kind) (Asked kind p s q)
+pub shown_exact : (kind : Kind) (p : Policy) (s : State) (q : Question) (run : List Change) → Run (moves p) s run → Sought (sought_by kind) p q (end s run) → Decides (sought_by kind) (IsYes kind p s q)
 shown_exact Possible p s q run r h = ((λ e. (run, r, h)), λ x. refl)
 shown_exact Necessary p s q run r h = ((λ e. absurd (both_ways false refl e)), λ all. absurd (h (all run r)))
 
 -- and where it is not so at the end, the question is decided the other way
-pub unshown_exact : (kind : Kind) (p : Policy) (s : State) (q : Question) (t : State) → Measured p s → Asked kind p s q ↔ Holds p t q → (Sought (sought_by kind) p q t → ⊥) → Decides (not (sought_by kind)) (Asked kind p s q)
+pub unshown_exact : (kind : Kind) (p : Policy) (s : State) (q : Question) (t : State) → Measured p s → IsYes kind p s q ↔ Holds p t q → (Sought (sought_by kind) p q t → ⊥) → Decides (not (sought_by kind)) (IsYes kind p s q)
 unshown_exact Possible p s q t board d off = ((λ e. absurd (both_ways false refl e)), λ x. absurd (off (d.0 x)))
 unshown_exact Necessary p s q t board d off = ((λ e. d.1 (⊎_elim (λ (h : Holds p t q). h) (λ (h : Holds p t q → ⊥). absurd (off h)) (holds? p s board t q))), λ x. refl)
 

@@ -2,18 +2,19 @@
 use Rattle.std.proofs.Common.{◌≡◌, ℕ, ◌+◌, ◌*◌, ◌/◌, ◌%◌, ◌<◌, Bool, true, false, not, ◌&&◌, T, ltb, ◌⊎◌, List, [], ◌∷◌, ◌++◌, length, take, set, sym, refl, ap, ◌∙◌, subst, ap₂, inl, inr, ⊎_elim, add-one, arith, ltb→lt, lt→ltb, take-suc-set}
 use mathlib.Core.Path.{subst⁻¹, fun_ext}
 use Rattle.std.proofs.lemmas.Bool.{cases_eq, both_ways}
-use Rattle.policy.specs.Membership.{User, Role, State, same}
-use Rattle.policy.specs.Rules.{Policy, RevokeRule, Nth, MayRemove}
-use Rattle.policy.specs.Sets.{Question}
-use Rattle.policy.specs.Runs.{Change, removes, pair, after, moves, Run, end}
-use Rattle.policy.specs.Regimes.{Aatu, Aar}
-use Rattle.policy.specs.Reach.{revocable, floor}
-use Rattle.policy.specs.Bounds.{Holder}
-use Rattle.policy.specs.Hire.{OnlyRemoves, Each}
-use Rattle.policy.proofs.Tests.{agree, first, second, both, clash, deny, as_true, as_test, is_it, it_is}
-use Rattle.policy.proofs.Numbered.{gives_revocable}
-use Rattle.policy.proofs.Runs.{joined, ends}
-use Rattle.policy.proofs.Floor.{each_joined, removes_joined, stays, by_regime}
+use Rattle.meaning.specs.Membership.{User, Role, State, same}
+use Rattle.meaning.specs.Rules.{Policy, RevokeRule, MayRemove}
+use Rattle.meaning.specs.Lists.{Nth}
+use Rattle.meaning.specs.Sets.{Question}
+use Rattle.meaning.specs.Runs.{Change, removes, pair, after, moves, Run, end}
+use Rattle.meaning.specs.Regimes.{Aatu, Aar}
+use Rattle.theory.specs.Reach.{revocable, floor}
+use Rattle.meaning.specs.Rows.{Holder}
+use Rattle.meaning.specs.Witnesses.{OnlyRemoves, Each}
+use Rattle.meaning.proofs.Tests.{agree, first, second, both, clash, deny, as_true, as_test, is_it, it_is}
+use Rattle.theory.proofs.Revocable.{gives_revocable}
+use Rattle.theory.proofs.Runs.{joined, ends}
+use Rattle.theory.proofs.Floor.{each_joined, removes_joined, stays, by_regime}
 use Rattle.deciding.specs.declared.runs.RunStep.{RunStep}
 use Rattle.deciding.specs.declared.plan.Plan.{Plan}
 use Rattle.deciding.specs.declared.plan.Slot.{Slot}

@@ -5,14 +5,14 @@ use Rattle.std.proofs.Math.Facts.{yes_eqb}
 use Rattle.std.proofs.lemmas.Bool.{both_ways}
 use Rattle.words.specs.Words.{bits, with}
 use Rattle.steps.specs.Steps.{Facts, System, Trace, none, more, Derivable, made}
-use Rattle.policy.specs.Membership.{User, State}
-use Rattle.policy.specs.Rules.{Policy}
-use Rattle.policy.specs.Sets.{Question}
-use Rattle.policy.specs.Hire.{Tracking, Looked}
-use Rattle.policy.specs.Verdicts.{Covers}
-use Rattle.policy.specs.Delegation.{TellsSenior, Slots, row_at, is_looked, state_of, rule_of, number_of, slot_of, role_of, delegation, Shut}
-use Rattle.policy.proofs.Tests.{agree, either, first, second, both, or_left, or_right, clash, deny, as_true, as_test}
-use Rattle.policy.proofs.Delegate.{opens_by, ruled, look, unlook}
+use Rattle.meaning.specs.Membership.{User, State}
+use Rattle.meaning.specs.Rules.{Policy}
+use Rattle.meaning.specs.Sets.{Question}
+use Rattle.theory.specs.Hire.{Tracking, Looked}
+use Rattle.theory.specs.Verdicts.{Covers}
+use Rattle.theory.specs.Delegation.{TellsSenior, Slots, row_at, is_looked, state_of, rule_of, number_of, slot_of, role_of, delegation, Shut}
+use Rattle.meaning.proofs.Tests.{agree, either, first, second, both, or_left, or_right, clash, deny, as_true, as_test}
+use Rattle.theory.proofs.Delegate.{opens_by, ruled, look, unlook}
 use Rattle.rbac.specs.declared.sets.RoleSet.{RoleSet}
 use Rattle.deciding.specs.declared.plan.Slot.{Slot}
 use Rattle.deciding.specs.declared.runs.RunStep.{RunStep}

@@ -4,17 +4,18 @@ use mathlib.Core.Path.{subst⁻¹}
 use lib.Dec.{eqb_refl}
 use Rattle.std.proofs.lemmas.Bool.{cases_eq}
 use Rattle.steps.specs.Steps.{count}
-use Rattle.policy.specs.Membership.{User, Role, Row, State}
-use Rattle.policy.specs.Rules.{Policy}
-use Rattle.policy.specs.Sets.{UserSet, members, holders, only, nobody, union, intersection, In, HasPermission, Question, Holds, Static, SemiStatic}
-use Rattle.policy.specs.Hire.{Tracking, Looked}
-use Rattle.policy.specs.Verdicts.{Covers, HoldsHere}
-use Rattle.policy.specs.Delegation.{member_test}
-use Rattle.policy.specs.Reach.{◌⊑◌}
-use Rattle.policy.proofs.Tests.{either, first, second, both, or_left, or_right, clash, decide, some_at, some_gives}
-use Rattle.policy.proofs.Delegate.{member_test_lem}
-use Rattle.policy.proofs.Growing.{inside}
-use Rattle.policy.proofs.Exact.{static, static_widely, alike, wx, wy}
+use Rattle.meaning.specs.Membership.{User, Role, Row, State}
+use Rattle.meaning.specs.Rules.{Policy}
+use Rattle.meaning.specs.Sets.{UserSet, members, holders, only, nobody, union, intersection, In, HasPermission, Question, Holds, Static, SemiStatic}
+use Rattle.theory.specs.Hire.{Tracking, Looked}
+use Rattle.theory.specs.Verdicts.{Covers, HoldsHere}
+use Rattle.theory.specs.Delegation.{member_test}
+use Rattle.theory.specs.Reach.{◌⊑◌}
+use Rattle.meaning.proofs.Tests.{either, first, second, both, or_left, or_right, clash, decide}
+use Rattle.theory.proofs.Tests.{some_at, some_gives}
+use Rattle.theory.proofs.Delegate.{member_test_lem}
+use Rattle.theory.proofs.Growing.{inside}
+use Rattle.theory.proofs.Exact.{static, static_widely, alike, wx, wy}
 use Rattle.rbac.specs.declared.sets.RoleSet.{RoleSet}
 use Rattle.rbac.specs.declared.users.User.{User as AUser}
 use Rattle.deciding.specs.Masked.{down_of, in_test}

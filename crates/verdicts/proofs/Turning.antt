@@ -5,12 +5,12 @@ use mathlib.Core.Bool.{beq}
 use Rattle.std.specs.Bool.{then_some}
 use Rattle.std.proofs.lemmas.Bool.{cases_eq, both_ways, ne_eqb, eq-eqb}
 use Rattle.steps.specs.Steps.{count}
-use Rattle.policy.specs.Membership.{User, Role, State}
-use Rattle.policy.specs.Rules.{Policy}
-use Rattle.policy.specs.Sets.{Question, Holds}
-use Rattle.policy.specs.Runs.{pair, after, end}
-use Rattle.policy.specs.Hire.{Tracking}
-use Rattle.policy.proofs.Tests.{either, first, as_true, as_test, is_it}
+use Rattle.meaning.specs.Membership.{User, Role, State}
+use Rattle.meaning.specs.Rules.{Policy}
+use Rattle.meaning.specs.Sets.{Question, Holds}
+use Rattle.meaning.specs.Runs.{pair, after, end}
+use Rattle.theory.specs.Hire.{Tracking}
+use Rattle.meaning.proofs.Tests.{either, first, as_true, as_test, is_it}
 use Rattle.rbac.specs.declared.sets.RoleSet.{RoleSet}
 use Rattle.rbac.specs.Roles.{roles_of}
 use Rattle.rbac.proofs.Masks.{of}
@@ -116,15 +116,15 @@ module _ (p : Policy) (s : State) (q : Question) (plan : Plan) (z : Ready p s q 
           let sit = looked_seated p s q (slots_of plan) (few plan.slots) z.planned u look in
           let (l, is) = slot_is p s q (slots_of plan) (few plan.slots) z.planned u sit in
           let i : ℕ = place slots u in
-          subst (λ v. Rattle.policy.specs.Sets.In p (t v) v q.smaller → Rattle.policy.specs.Sets.In p (t v) v q.larger) is
-          (subst (λ row. Rattle.policy.specs.Sets.In p row (user_at slots i) q.smaller → Rattle.policy.specs.Sets.In p row (user_at slots i) q.larger) (y.rows i l)
+          subst (λ v. Rattle.meaning.specs.Sets.In p (t v) v q.smaller → Rattle.meaning.specs.Sets.In p (t v) v q.larger) is
+          (subst (λ row. Rattle.meaning.specs.Sets.In p row (user_at slots i) q.smaller → Rattle.meaning.specs.Sets.In p row (user_at slots i) q.larger) (y.rows i l)
           (pass_in p plan.masks.seniors plan.masks.givers z.ranked (slot_at slots i).user (word_row ws i) (low i) q (pass i (count_none f (length slots) (eqb→eq (count f (length slots)) 0 (as_test (eqb (count f (length slots)) 0) e)) i l)))))
 
       back : Holds p t q → eqb (count f (length slots)) 0 ≡ true
       back h = eq-eqb (count f (length slots)) 0 (none_count f (length slots) (λ i l.
           ap not (as_true (passed plan.masks.seniors plan.masks.givers q (slot_at slots i).user (word_row ws i))
           (in_pass p plan.masks.seniors plan.masks.givers z.ranked (slot_at slots i).user (word_row ws i) (low i) q
-          (subst⁻¹ (λ row. Rattle.policy.specs.Sets.In p row (user_at slots i) q.smaller → Rattle.policy.specs.Sets.In p row (user_at slots i) q.larger) (y.rows i l) (h (user_at slots i) (z.planned.seats.inside i l)))))))
+          (subst⁻¹ (λ row. Rattle.meaning.specs.Sets.In p row (user_at slots i) q.smaller → Rattle.meaning.specs.Sets.In p row (user_at slots i) q.larger) (y.rows i l) (h (user_at slots i) (z.planned.seats.inside i l)))))))
 
   -- as the code tests it
   pub shows_is : (sought : Bool) (n : ℕ) (ws : List ℕ) (t : State) → n ≡ failing plan.masks.seniors plan.masks.givers q slots ws → Says slots ws t → eqb n 0 ≡ sought → Sought sought p q t

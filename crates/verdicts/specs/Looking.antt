@@ -1,10 +1,10 @@
 -- A question at the slots, and a run of plain steps as changes.
 use Rattle.std.specs.Prelude.{◌≡◌, ℕ, suc, ◌<◌, ◌≤◌, Bool, true, false, cond, not, ◌||◌, T, List, [], ◌∷◌, length, map, take, Some, None, Option, ◌==◌, slice_index}
 use Rattle.steps.specs.Steps.{count}
-use Rattle.policy.specs.Membership.{User, Role, Row, State}
-use Rattle.policy.specs.Rules.{Policy}
-use Rattle.policy.specs.Sets.{Question, Holds}
-use Rattle.policy.specs.Runs.{Change, end}
+use Rattle.meaning.specs.Membership.{User, Role, Row, State}
+use Rattle.meaning.specs.Rules.{Policy}
+use Rattle.meaning.specs.Sets.{Question, Holds}
+use Rattle.meaning.specs.Runs.{Change, end}
 use Rattle.rbac.specs.declared.sets.RoleSet.{RoleSet}
 use Rattle.rbac.specs.declared.users.User.{User as AUser}
 use Rattle.rbac.specs.Roles.{roles_of, without}

@@ -1,10 +1,10 @@
 -- What a question is decided from.
 use Rattle.std.specs.Prelude.{T, List, [], ◌∷◌}
-use Rattle.policy.specs.Membership.{State}
-use Rattle.policy.specs.Rules.{Policy}
-use Rattle.policy.specs.Sets.{Question, SemiStatic}
-use Rattle.policy.specs.Regimes.{Regular}
-use Rattle.policy.specs.Bounds.{Measured}
+use Rattle.meaning.specs.Membership.{State}
+use Rattle.meaning.specs.Rules.{Policy}
+use Rattle.meaning.specs.Sets.{Question, SemiStatic}
+use Rattle.meaning.specs.Regimes.{Regular}
+use Rattle.theory.specs.Bounds.{Measured}
 use Rattle.deciding.specs.declared.runs.RunStep.{RunStep}
 use Rattle.deciding.specs.declared.plan.Slot.{Slot}
 use Rattle.deciding.specs.declared.plan.Plan.{Plan}

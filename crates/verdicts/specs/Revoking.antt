@@ -1,8 +1,9 @@
 -- The rule by which a role is taken.
 use Rattle.std.specs.Prelude.{◌≡◌, false, T, List, Some, None, Option}
-use Rattle.policy.specs.Membership.{Role}
-use Rattle.policy.specs.Rules.{RevokeRule, Nth}
-use Rattle.policy.specs.Reach.{revocable}
+use Rattle.meaning.specs.Membership.{Role}
+use Rattle.meaning.specs.Rules.{RevokeRule}
+use Rattle.meaning.specs.Lists.{Nth}
+use Rattle.theory.specs.Reach.{revocable}
 use Rattle.verdicts.specs.declared.revoker.Revoker.{Revoker}
 
 -- a rule of this number has the target, and this administering role; or no rule has it

@@ -1,12 +1,13 @@
 -- The run that takes all that can be taken, slot by slot and role by role.
 use Rattle.std.specs.Prelude.{◌≡◌, ℕ, ◌+◌, ◌*◌, ◌<◌, ◌≤◌, false, not, ◌&&◌, T, List, length, take, Some, None, Option, nat_lt}
-use Rattle.policy.specs.Measures.{roles}
-use Rattle.policy.specs.Membership.{Role, State}
-use Rattle.policy.specs.Rules.{Policy, RevokeRule, Nth}
-use Rattle.policy.specs.Runs.{moves, Run, end}
-use Rattle.policy.specs.Reach.{revocable}
-use Rattle.policy.specs.Bounds.{Holder}
-use Rattle.policy.specs.Hire.{OnlyRemoves, Each}
+use Rattle.meaning.specs.Measures.{roles}
+use Rattle.meaning.specs.Membership.{Role, State}
+use Rattle.meaning.specs.Rules.{Policy, RevokeRule}
+use Rattle.meaning.specs.Lists.{Nth}
+use Rattle.meaning.specs.Runs.{moves, Run, end}
+use Rattle.theory.specs.Reach.{revocable}
+use Rattle.meaning.specs.Rows.{Holder}
+use Rattle.meaning.specs.Witnesses.{OnlyRemoves, Each}
 use Rattle.deciding.specs.declared.runs.RunStep.{RunStep}
 use Rattle.deciding.specs.declared.plan.Slot.{Slot}
 use Rattle.deciding.specs.Slots.{user_at}

@@ -4,15 +4,15 @@ use Rattle.std.specs.Bool.{beq}
 use Rattle.std.specs.Option.{is_some}
 use Rattle.steps.specs.declared.short.TooShort.{TooShort}
 use Rattle.steps.specs.declared.short.TooShort.TheVariants.{Words, Places}
-use Rattle.policy.specs.Measures.{list_places, work_words}
-use Rattle.policy.specs.Membership.{State}
-use Rattle.policy.specs.Rules.{Policy}
-use Rattle.policy.specs.Sets.{Question}
-use Rattle.policy.specs.Runs.{moves}
-use Rattle.policy.specs.Verdicts.{Shows}
-use Rattle.policy.specs.Terms.{Asked}
-use Rattle.policy.specs.declared.terms.Kind.{Kind}
-use Rattle.policy.specs.declared.terms.Kind.TheVariants.{Possible, Necessary}
+use Rattle.meaning.specs.Measures.{list_places, work_words}
+use Rattle.meaning.specs.Membership.{State}
+use Rattle.meaning.specs.Rules.{Policy}
+use Rattle.meaning.specs.Sets.{Question}
+use Rattle.meaning.specs.Runs.{moves}
+use Rattle.meaning.specs.Witnesses.{Shows}
+use Rattle.meaning.specs.Terms.{IsYes}
+use Rattle.meaning.specs.declared.terms.Kind.{Kind}
+use Rattle.meaning.specs.declared.terms.Kind.TheVariants.{Possible, Necessary}
 use Rattle.deciding.specs.declared.runs.RunStep.{RunStep}
 use Rattle.verdicts.specs.declared.verdict.Verdict.{Verdict}
 use Rattle.verdicts.specs.Looking.{Sought, changes}
@@ -24,7 +24,7 @@ sought_by Necessary = false
 
 -- yes just where the question holds; a run shows it just where it can be shown, and then stands in the first places and the others are as they were; else all are
 pub record Decided (kind : Kind) (p : Policy) (s : State) (q : Question) (list : List RunStep) (v : Verdict) (after : List RunStep) : Type 0 where
-  pub exact : Decides v.yes (Asked kind p s q)
+  pub exact : Decides v.yes (IsYes kind p s q)
   pub shown : is_some v.run ≡ beq v.yes (sought_by kind)
   pub run : MatchOption v.run (after ≡ list)
       (λ x. Shows (moves p) s q (Sought (sought_by kind) p q) list_places (changes x.adds (take x.steps after)) × (drop x.steps after ≡ drop x.steps list))

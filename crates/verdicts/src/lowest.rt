@@ -1,6 +1,6 @@
 // A run that takes all that can be taken.
 ghost use Rattle.std.specs.Prelude.{◌+◌, ◌*◌, ◌<◌, ◌≤◌, length};
-ghost use Rattle.policy.specs.Measures.{roles, list_places};
+ghost use Rattle.meaning.specs.Measures.{roles, list_places};
 ghost use Rattle.deciding.specs.Slots.{slots_of};
 ghost use Rattle.tables.specs.View.{policy_of, state_of};
 ghost use Rattle.verdicts.specs.Ready.{ReadyCase};
@@ -9,7 +9,7 @@ ghost use Rattle.verdicts.specs.Stripped.{Taken, Stripped};
 use crate::case::Case;
 use crate::revoking::{holder, revoker};
 use deciding::RunStep;
-use policy::ROLES;
+use meaning::ROLES;
 use rbac::Role;
 
 impl Case<'_> {

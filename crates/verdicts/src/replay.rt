@@ -1,8 +1,8 @@
 // A run made again from the start, up to the first state that shows what is sought.
 ghost use Rattle.std.specs.Prelude.{◌≡◌, ◌+◌, ◌<◌, ◌≤◌, false, not, T, length};
-ghost use Rattle.policy.specs.Measures.{tracked_users};
-ghost use Rattle.policy.specs.Membership.{State};
-ghost use Rattle.policy.specs.Runs.{after};
+ghost use Rattle.meaning.specs.Measures.{tracked_users};
+ghost use Rattle.meaning.specs.Membership.{State};
+ghost use Rattle.meaning.specs.Runs.{after};
 ghost use Rattle.rbac.specs.Roles.{roles_of};
 ghost use Rattle.questions.specs.Inquired.{inquired};
 ghost use Rattle.tables.specs.View.{policy_of, state_of};

@@ -1,6 +1,6 @@
 // Runs to the two places where questions are decided.
 ghost use Rattle.std.specs.Prelude.{◌≡◌, ℕ, ◌<◌, ◌≤◌, length, slice_index};
-ghost use Rattle.policy.specs.Measures.{tracked_users, list_places};
+ghost use Rattle.meaning.specs.Measures.{tracked_users, list_places};
 ghost use Rattle.bounded.specs.Entries.{entries};
 ghost use Rattle.questions.specs.Inquired.{inquired};
 ghost use Rattle.tables.specs.View.{policy_of, state_of};
@@ -12,8 +12,8 @@ ghost use Rattle.verdicts.specs.Candidates.{Candidate};
 
 use crate::case::Case;
 use deciding::{Delegation, RunStep, Slot};
-use policy::Place;
 use steps::close;
+use theory::Place;
 
 // Puts the roles assigned now into the words of the slots. The words are a lent table, so they stand beside the slots.
 pub(crate) fn fill(work: &mut [u64], slots: &[Slot])

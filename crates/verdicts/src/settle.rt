@@ -1,6 +1,6 @@
 // Deciding a question.
 ghost use Rattle.std.specs.Prelude.{◌≡◌, ℕ, ◌≤◌, length, slice_index};
-ghost use Rattle.policy.specs.Measures.{tracked_users, list_places};
+ghost use Rattle.meaning.specs.Measures.{tracked_users, list_places};
 ghost use Rattle.bounded.specs.Entries.{entries};
 ghost use Rattle.tables.specs.View.{policy_of, state_of};
 ghost use Rattle.questions.specs.Inquired.{inquired};
@@ -14,11 +14,12 @@ use crate::runners::fill;
 use crate::verdict::{Shown, Verdict};
 use crate::work::Work;
 use deciding::RunStep;
+use meaning::{Kind, LIST_PLACES, WORK_WORDS};
 use planning::plan_of;
-use policy::{Kind, LIST_PLACES, Place, WORK_WORDS, decided_at};
 use questions::Inquiry;
 use soundness::Valid;
 use steps::TooShort;
+use theory::{Place, decided_at};
 
 // The truth value that a run can show.
 fn sought(kind: Kind) -> bool

@@ -1,9 +1,8 @@
 -- A requirement that some line says can be asked.
 use Rattle.std.proofs.Common.{◌≡◌, ℕ, refl, subst}
-use Rattle.policy.specs.Sets.{Question}
-use Rattle.policy.specs.Rules.{Nth}
-use Rattle.policy.specs.Requirements.{Requirement}
-use Rattle.policy.specs.Verdicts.{Askable}
+use Rattle.meaning.specs.Sets.{Question, Askable}
+use Rattle.meaning.specs.Lists.{Nth}
+use Rattle.meaning.specs.Requirements.{Requirement}
 use Rattle.lines.specs.Lines.{Fine, bodies}
 use Rattle.lines.specs.declared.keyword.Keyword.{Keyword}
 use Rattle.lines.specs.declared.keyword.Keyword.TheVariants.{Ua, Pa, Rh, Trust, Assign, Revoke, Always, Never, Possible, Necessary}

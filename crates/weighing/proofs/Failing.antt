@@ -3,10 +3,11 @@ use Rattle.std.proofs.Common.{◌≡◌, ℕ, ◌+◌, ◌<◌, ◌≤◌, List,
 use mathlib.Core.Path.{subst⁻¹}
 use native.Mathlib.Nat.{suc_inj}
 use Rattle.std.proofs.lemmas.Bool.{cases_lt}
-use Rattle.policy.specs.Membership.{State}
-use Rattle.policy.specs.Rules.{Policy, Nth}
-use Rattle.policy.specs.Requirements.{Requirement, always, never, Met, Stands}
-use Rattle.policy.proofs.Numbered.{at_nth, nth_at}
+use Rattle.meaning.specs.Membership.{State}
+use Rattle.meaning.specs.Rules.{Policy}
+use Rattle.meaning.specs.Lists.{Nth}
+use Rattle.meaning.specs.Requirements.{Requirement, always, never, Met, Stands}
+use Rattle.meaning.proofs.Numbered.{at_nth, nth_at}
 use Rattle.tables.specs.declared.entries.RequirementEntry.{RequirementEntry}
 use Rattle.tables.specs.declared.tables.Tables.{Tables}
 use Rattle.bounded.specs.Entries.{entries}

@@ -1,10 +1,11 @@
 -- The delegates' calls grant the runs of a board's tables.
 use Rattle.std.proofs.Common.{ℕ, ◌<◌, T, List, [], ◌∷◌, map}
-use Rattle.policy.specs.Rules.{RevokeRule, Nth, first, later}
-use Rattle.policy.specs.Runs.{Change, Run, moves, end}
-use Rattle.policy.specs.Regimes.{Regular}
-use Rattle.policy.specs.Granting.{FreeRows}
-use Rattle.policy.proofs.Turns.{run_granted}
+use Rattle.meaning.specs.Rules.{RevokeRule}
+use Rattle.meaning.specs.Lists.{Nth, first, later}
+use Rattle.meaning.specs.Runs.{Change, Run, moves, end}
+use Rattle.meaning.specs.Regimes.{Regular}
+use Rattle.meaning.specs.Rows.{FreeRows}
+use Rattle.theory.proofs.Turns.{run_granted}
 use Rattle.bounded.specs.Entries.{entries}
 use Rattle.tables.specs.declared.entries.RevokeEntry.{RevokeEntry}
 use Rattle.tables.specs.declared.tables.Tables.{Tables}

@@ -2,10 +2,10 @@
 use Rattle.std.proofs.Common.{◌≡◌, Bool, true, false, List, Some, None, Option, MatchOption, sym, refl, ap, ◌∙◌, subst}
 use mathlib.Core.Bool.{beq, false≢true}
 use Rattle.std.specs.Option.{is_some}
-use Rattle.policy.specs.Membership.{State}
-use Rattle.policy.specs.Rules.{Policy}
-use Rattle.policy.specs.Sets.{Question}
-use Rattle.policy.specs.Requirements.{Stands}
+use Rattle.meaning.specs.Membership.{State}
+use Rattle.meaning.specs.Rules.{Policy}
+use Rattle.meaning.specs.Sets.{Question}
+use Rattle.meaning.specs.Requirements.{Stands}
 use Rattle.tables.specs.declared.entries.Demand.{Demand}
 use Rattle.tables.specs.declared.entries.Demand.TheVariants.{Always, Never}
 use Rattle.tables.specs.View.{demanded}

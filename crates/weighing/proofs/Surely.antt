@@ -1,9 +1,9 @@
 -- Whether a requirement stands can be told, so what cannot fail to stand does.
 use Rattle.std.proofs.Common.{[], ⊎_elim, arith}
-use Rattle.policy.specs.Membership.{State}
-use Rattle.policy.specs.Requirements.{Requirement, always, never, Stands}
-use Rattle.policy.specs.Bounds.{Measured}
-use Rattle.policy.proofs.Deciding.{holds?}
+use Rattle.meaning.specs.Membership.{State}
+use Rattle.meaning.specs.Requirements.{Requirement, always, never, Stands}
+use Rattle.theory.specs.Bounds.{Measured}
+use Rattle.theory.proofs.Deciding.{holds?}
 use Rattle.rbac.specs.declared.users.User.{User as AUser}
 use Rattle.bounded.specs.Entries.{entries}
 use Rattle.bounded.proofs.Listing.{few}

@@ -1,14 +1,14 @@
 -- Whether a requirement stands, and what shows that it does not.
 use Rattle.std.specs.Prelude.{◌≡◌, List, take, drop, Result, MatchResult}
-use Rattle.policy.specs.Measures.{list_places}
-use Rattle.policy.specs.Membership.{State}
-use Rattle.policy.specs.Rules.{Policy}
-use Rattle.policy.specs.Sets.{Question, Holds}
-use Rattle.policy.specs.Runs.{moves}
-use Rattle.policy.specs.Requirements.{Requirement, always, never, Stands}
-use Rattle.policy.specs.Verdicts.{Shows}
-use Rattle.policy.specs.declared.terms.Kind.{Kind}
-use Rattle.policy.specs.declared.terms.Kind.TheVariants.{Possible, Necessary}
+use Rattle.meaning.specs.Measures.{list_places}
+use Rattle.meaning.specs.Membership.{State}
+use Rattle.meaning.specs.Rules.{Policy}
+use Rattle.meaning.specs.Sets.{Question, Holds}
+use Rattle.meaning.specs.Runs.{moves}
+use Rattle.meaning.specs.Requirements.{Requirement, always, never, Stands}
+use Rattle.meaning.specs.Witnesses.{Shows}
+use Rattle.meaning.specs.declared.terms.Kind.{Kind}
+use Rattle.meaning.specs.declared.terms.Kind.TheVariants.{Possible, Necessary}
 use Rattle.tables.specs.declared.entries.Demand.{Demand}
 use Rattle.tables.specs.declared.entries.Demand.TheVariants.{Always, Never}
 use Rattle.deciding.specs.declared.runs.RunStep.{RunStep}

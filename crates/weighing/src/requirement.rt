@@ -1,12 +1,12 @@
 // One standing requirement, asked of the engine that answers questions.
 ghost use Rattle.std.specs.Prelude.{◌≡◌, ℕ, ◌≤◌, length};
-ghost use Rattle.policy.specs.Measures.{list_places, work_words};
+ghost use Rattle.meaning.specs.Measures.{list_places, work_words};
 ghost use Rattle.tables.specs.View.{policy_of, state_of, requirement_of, question_of};
 ghost use Rattle.questions.specs.Inquired.{inquired, Posable};
 ghost use Rattle.weighing.specs.Standing.{asked_by, Judged};
 
 use deciding::RunStep;
-use policy::Kind;
+use meaning::Kind;
 use questions::Inquiry;
 use soundness::Valid;
 use tables::{Demand, RequirementEntry};

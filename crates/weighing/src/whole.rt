@@ -1,6 +1,6 @@
 // A draft weighed as a whole.
 ghost use Rattle.std.specs.Prelude.{◌≡◌, ℕ, ◌≤◌, length, slice_index};
-ghost use Rattle.policy.specs.Measures.{list_places, work_words};
+ghost use Rattle.meaning.specs.Measures.{list_places, work_words};
 ghost use Rattle.bounded.specs.Entries.{entries as entries_of};
 ghost use Rattle.drafts.specs.Neat.{Neat};
 ghost use Rattle.drafts.specs.View.{book_of};
@@ -11,7 +11,7 @@ use crate::requirement::judge;
 use book::Cause;
 use deciding::RunStep;
 use drafts::Draft;
-use policy::{LIST_PLACES, WORK_WORDS};
+use meaning::{LIST_PLACES, WORK_WORDS};
 use soundness::Valid;
 use tables::RequirementEntry;
 use verdicts::Work;

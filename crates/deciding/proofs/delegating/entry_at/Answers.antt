@@ -1,5 +1,5 @@
 use Rattle.std.proofs.Common.{suc, ◌<◌, length, get_or, sym, ap, ◌∙◌, subst, arith, rules}
-use Rattle.policy.specs.Rules.{Nth}
+use Rattle.meaning.specs.Lists.{Nth}
 use Rattle.bounded.specs.Entries.{entries}
 use Rattle.tables.specs.View.{assign_of}
 use Rattle.deciding.proofs.Viewing.{rules_are, rule_is, entry_nth}

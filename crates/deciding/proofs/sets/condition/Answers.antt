@@ -1,6 +1,6 @@
 use Rattle.std.proofs.Common.{◌≡◌, true, None, sym, ap, ◌∙◌, subst, arith}
 use mathlib.Core.Path.{subst⁻¹}
-use Rattle.policy.specs.Delegation.{meets_test}
+use Rattle.theory.specs.Delegation.{meets_test}
 use Rattle.rbac.specs.Roles.{roles_of}
 use Rattle.trees.specs.Trees.{balanced, decode}
 use Rattle.tables.specs.View.{set_of, condition_of, or_nobody}

@@ -1,5 +1,5 @@
 use Rattle.std.proofs.Common.{◌&&◌, ap, ◌∙◌}
-use Rattle.policy.specs.Tests.{some}
+use Rattle.theory.specs.Tests.{some}
 use Rattle.rbac.specs.Roles.{roles_of}
 use Rattle.deciding.proofs.Machine.{shared}
 use Rattle.deciding.proofs.sets.member.Goals as goal

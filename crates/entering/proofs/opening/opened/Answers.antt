@@ -1,7 +1,7 @@
 use Rattle.std.proofs.Common.{rules, ◌≡◌, ℕ, ◌+◌, ◌≤◌, List, length, Ok, Err, Result, subst, subst₂}
 use mathlib.Core.Path.{subst⁻¹}
 use Rattle.grammar.specs.Text.{rest}
-use Rattle.policy.specs.declared.terms.Regime.{Regime}
+use Rattle.meaning.specs.declared.terms.Regime.{Regime}
 use Rattle.texts.specs.declared.faults.Fault.{Fault}
 use Rattle.texts.specs.Board.{Begins}
 use Rattle.drafts.specs.View.{book_of}

@@ -1,6 +1,6 @@
 use Rattle.std.proofs.Common.{ap, ◌∙◌, refl}
 use borrow.Author.Tests.{clash}
-use Rattle.policy.specs.Terms.{regime_of}
+use Rattle.meaning.specs.Terms.{regime_of}
 use Rattle.tables.proofs.Viewing.{regime_is}
 use Rattle.drafts.proofs.Weighing.{not_both}
 use Rattle.entering.proofs.regime.is_aatu.Goals as goal

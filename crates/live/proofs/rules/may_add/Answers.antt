@@ -1,5 +1,5 @@
 use Rattle.std.proofs.Common.{sym, ◌∙◌, subst}
-use Rattle.policy.specs.Rules.{Nth}
+use Rattle.meaning.specs.Lists.{Nth}
 use Rattle.soundness.proofs.Stable.{sound}
 use Rattle.deciding.specs.Masked.{down_of}
 use Rattle.live.proofs.Permitting.{whole_entry, adds_told, trusted_told}

@@ -1,5 +1,5 @@
 use Rattle.std.proofs.Common.{◌≡◌, ◌+◌, ◌<◌, ◌≤◌, List, ◌++◌, length}
-use Rattle.policy.specs.Sets.{UserSet}
+use Rattle.meaning.specs.Sets.{UserSet}
 use Rattle.trees.specs.Reading.{postfix}
 use Rattle.trees.specs.declared.nodes.Node.{Node}
 use Rattle.pen.proofs.Shapes.{Left}

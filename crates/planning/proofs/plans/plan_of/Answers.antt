@@ -1,8 +1,8 @@
 use Rattle.std.proofs.Common.{◌≡◌, ℕ, ◌<◌, ◌||◌, true, false, length, sym, refl, ap, ◌∙◌, arith}
 use mathlib.Core.Path.{subst⁻¹}
-use Rattle.policy.specs.Tests.{listed}
-use Rattle.policy.specs.Hire.{named}
-use Rattle.policy.proofs.Tests.{as_test}
+use Rattle.meaning.specs.Lists.{listed}
+use Rattle.meaning.specs.Sets.{named}
+use Rattle.meaning.proofs.Tests.{as_test}
 use Rattle.bounded.specs.Entries.{entries}
 use Rattle.tables.specs.View.{policy_of, state_of, set_of, question_of}
 use Rattle.deciding.specs.declared.plan.Slot.{Slot}

@@ -1,7 +1,7 @@
 use Rattle.std.proofs.Common.{◌≡◌, ◌+◌, [], ◌∷◌, length, get_or, drop, ap, arith}
 use mathlib.Core.Path.{subst⁻¹}
 use Rattle.std.proofs.lemmas.List.{drop_more, drop_all}
-use Rattle.policy.specs.Tests.{listed}
+use Rattle.meaning.specs.Lists.{listed}
 use Rattle.bounded.specs.Entries.{entries}
 use Rattle.trees.specs.declared.nodes.Node.TheVariants.{Role}
 use Rattle.tables.specs.View.{policy_of, state_of}

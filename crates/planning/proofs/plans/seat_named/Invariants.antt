@@ -1,5 +1,5 @@
 use Rattle.std.proofs.Common.{◌+◌, ◌≤◌, List, length, drop}
-use Rattle.policy.specs.Tests.{listed}
+use Rattle.meaning.specs.Lists.{listed}
 use Rattle.bounded.specs.Entries.{entries}
 use Rattle.tables.specs.View.{state_of, policy_of}
 use Rattle.questions.specs.Naming.{users_in}

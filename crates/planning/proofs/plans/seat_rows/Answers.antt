@@ -3,7 +3,7 @@ use mathlib.Core.Path.{subst⁻¹}
 use Rattle.std.specs.List.{list_any}
 use Rattle.std.proofs.lemmas.List.{take_all}
 use Rattle.std.proofs.lemmas.List.Folds.{list_any_more}
-use Rattle.policy.specs.Bounds.{Holder}
+use Rattle.meaning.specs.Rows.{Holder}
 use Rattle.rbac.specs.Roles.{roles_of}
 use Rattle.bounded.specs.Entries.{entries}
 use Rattle.tables.specs.View.{state_of, policy_of}

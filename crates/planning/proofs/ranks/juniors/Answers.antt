@@ -1,5 +1,5 @@
 use Rattle.std.proofs.Common.{ℕ, Decides, ◌∙◌, subst, arith, mod-eq_of_lt, length-set}
-use Rattle.policy.specs.Membership.{Senior}
+use Rattle.meaning.specs.Membership.{Senior}
 use Rattle.rbac.specs.Roles.{roles_of}
 use Rattle.hierarchy.specs.Edges.{edges_of, no_roles}
 use Rattle.planning.proofs.Ranking.{filled}

@@ -1,5 +1,5 @@
 use Rattle.std.proofs.Common.{◌≡◌, ℕ, ◌<◌, length, get_or, Decides}
-use Rattle.policy.specs.Membership.{Senior}
+use Rattle.meaning.specs.Membership.{Senior}
 use Rattle.rbac.specs.Roles.{roles_of}
 use Rattle.hierarchy.specs.Edges.{edges_of, no_roles}
 use Rattle.planning.proofs.ranks.juniors.Given as goal

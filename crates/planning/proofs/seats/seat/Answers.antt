@@ -1,6 +1,6 @@
 use Rattle.std.proofs.Common.{T, eqb, not, sym, ap, ◌∙◌, subst, eqb→eq, arith}
 use mathlib.Core.Path.{subst⁻¹}
-use Rattle.policy.proofs.Tests.{as_test}
+use Rattle.meaning.proofs.Tests.{as_test}
 use Rattle.bounded.specs.Entries.{entries}
 use Rattle.tables.specs.View.{policy_of, state_of}
 use Rattle.deciding.specs.declared.plan.Slot.{Slot}

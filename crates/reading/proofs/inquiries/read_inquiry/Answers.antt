@@ -1,7 +1,7 @@
 use Rattle.std.proofs.Common.{ap₂}
 use mathlib.Core.Path.{subst⁻¹}
-use Rattle.policy.specs.Sets.{Question}
-use Rattle.policy.specs.declared.terms.Kind.{Kind}
+use Rattle.meaning.specs.Sets.{Question}
+use Rattle.meaning.specs.declared.terms.Kind.{Kind}
 use Rattle.tables.specs.View.{question_of}
 use Rattle.reading.specs.Posing.{Poses}
 use Rattle.reading.proofs.Posing.{by_nodes}

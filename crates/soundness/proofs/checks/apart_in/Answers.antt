@@ -4,7 +4,7 @@ use mathlib.Core.Path.{subst⁻¹}
 use Rattle.words.specs.Words.{bits, with}
 use Rattle.words.proofs.Rows.{put_there}
 use Rattle.rbac.specs.declared.users.User.{User}
-use Rattle.policy.specs.Measures.{users}
+use Rattle.meaning.specs.Measures.{users}
 use Rattle.soundness.proofs.Marking.{Marked, none_marked, row_free, row_marked, marked_twice, all_marked}
 use Rattle.soundness.proofs.checks.apart_in.Goals as goal
 use Rattle.soundness.proofs.checks.apart_in.Goals.{in-Some+else-has, in_default}

@@ -1,6 +1,6 @@
 use Rattle.std.proofs.Common.{◌≡◌, ◌*◌, length}
 use Rattle.words.specs.Words.{bits}
-use Rattle.policy.specs.Measures.{users}
+use Rattle.meaning.specs.Measures.{users}
 use Rattle.soundness.proofs.Marking.{Marked}
 use Rattle.soundness.proofs.checks.apart_in.Given as goal
 

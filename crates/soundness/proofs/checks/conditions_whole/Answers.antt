@@ -1,5 +1,5 @@
 use Rattle.std.proofs.Common.{ℕ, List, Decides, subst}
-use Rattle.policy.specs.Rules.{Nth}
+use Rattle.meaning.specs.Lists.{Nth}
 use Rattle.tables.specs.declared.entries.AssignEntry.{AssignEntry}
 use Rattle.soundness.specs.Valid.{Whole}
 use Rattle.soundness.proofs.checks.conditions_whole.Goals as goal

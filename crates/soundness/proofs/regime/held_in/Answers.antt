@@ -1,6 +1,6 @@
 use Rattle.std.proofs.Common.{◌≡◌, Bool, ◌||◌, refl, ◌<◌, true, false, sym, take, ap, ◌∙◌, arith, below_more}
 use Rattle.std.proofs.lemmas.List.{take_all}
-use Rattle.policy.specs.Measures.{users}
+use Rattle.meaning.specs.Measures.{users}
 use Rattle.rbac.specs.Roles.{roles_of}
 use Rattle.tables.specs.Rows.{is_used, row_at}
 use Rattle.tables.proofs.Listing.{any}

@@ -1,5 +1,5 @@
 use Rattle.std.proofs.Common.{◌≡◌, ℕ, ◌<◌, true, take}
-use Rattle.policy.specs.Measures.{users}
+use Rattle.meaning.specs.Measures.{users}
 use Rattle.rbac.specs.Roles.{roles_of}
 use Rattle.tables.specs.Rows.{is_used, row_at}
 use Rattle.tables.proofs.Listing.{any}

@@ -1,5 +1,5 @@
 use Rattle.std.proofs.Common.{ℕ, map, take}
-use Rattle.policy.specs.Rules.{Nth}
+use Rattle.meaning.specs.Lists.{Nth}
 use Rattle.pen.specs.Puts.{Wrote}
 use Rattle.tables.specs.declared.entries.AssignEntry.{AssignEntry}
 use Rattle.tables.specs.View.{assign_of}

@@ -1,5 +1,5 @@
 use Rattle.std.proofs.Common.{ℕ, ◌<◌, T, List, map, Decides, subst}
-use Rattle.policy.specs.Tests.{listed as named}
+use Rattle.meaning.specs.Lists.{listed as named}
 use Rattle.rbac.specs.declared.users.User.{User}
 use Rattle.bounded.specs.Entries.{entries}
 use Rattle.lines.specs.Lists.{number_of}

@@ -1,7 +1,7 @@
 use Rattle.std.proofs.Common.{ℕ, List, map, sym, ap, ◌∙◌}
 use mathlib.Core.Path.{subst⁻¹}
-use Rattle.policy.specs.Rules.{Nth}
-use Rattle.policy.specs.Terms.{regime_of}
+use Rattle.meaning.specs.Lists.{Nth}
+use Rattle.meaning.specs.Terms.{regime_of}
 use Rattle.pen.proofs.Join.{join, to, here}
 use Rattle.pen.specs.Puts.{Wrote}
 use Rattle.tables.specs.declared.entries.AssignEntry.{AssignEntry}

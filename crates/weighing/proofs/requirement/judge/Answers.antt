@@ -1,6 +1,6 @@
 use Rattle.std.proofs.Common.{subst₂}
-use Rattle.policy.specs.Sets.{Question}
-use Rattle.policy.specs.declared.terms.Kind.{Kind}
+use Rattle.meaning.specs.Sets.{Question}
+use Rattle.meaning.specs.declared.terms.Kind.{Kind}
 use Rattle.tables.specs.View.{policy_of, state_of, question_of}
 use Rattle.verdicts.specs.Verdict.{Decided}
 use Rattle.weighing.proofs.Judging.{stands}

@@ -1,5 +1,5 @@
 use Rattle.std.proofs.Common.{◌+◌, List, ◌∙◌, subst, arith}
-use Rattle.policy.specs.Rules.{Nth}
+use Rattle.meaning.specs.Lists.{Nth}
 use Rattle.tables.specs.declared.entries.RequirementEntry.{RequirementEntry}
 use Rattle.tables.specs.View.{policy_of, state_of, requirement_of}
 use Rattle.deciding.specs.declared.runs.RunStep.{RunStep}

@@ -1,6 +1,6 @@
 use Rattle.std.proofs.Common.{◌≡◌, Err, set, refl, subst, rules}
 use mathlib.Core.Path.{subst⁻¹}
-use Rattle.policy.specs.Runs.{Change, adds}
+use Rattle.meaning.specs.Runs.{Change, adds}
 use Rattle.book.specs.declared.refusal.Cause.TheVariants as cause
 use Rattle.book.specs.Calls.{adding}
 use Rattle.book.specs.Faults.{of_no_line}

@@ -1,7 +1,7 @@
 use Rattle.std.proofs.Common.{List, ap, ◌∙◌, subst}
 use mathlib.Core.Path.{subst⁻¹}
-use Rattle.policy.specs.Rules.{Nth}
-use Rattle.policy.specs.Requirements.{Requirement}
+use Rattle.meaning.specs.Lists.{Nth}
+use Rattle.meaning.specs.Requirements.{Requirement}
 use Rattle.tables.specs.declared.tables.Tables.{Tables}
 use Rattle.book.specs.Book.{Book}
 use Rattle.drafts.specs.Neat.{Neat}

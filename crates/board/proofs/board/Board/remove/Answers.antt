@@ -1,4 +1,4 @@
-use Rattle.policy.specs.Runs.{Change, removes}
+use Rattle.meaning.specs.Runs.{Change, removes}
 use Rattle.book.proofs.Ordered.{less_orderly}
 use Rattle.drafts.specs.View.{book_of}
 use Rattle.board.proofs.Changing.{book_after, sound_after, neat_after, lasting_after, sure_apart}

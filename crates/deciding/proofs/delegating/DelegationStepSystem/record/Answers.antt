@@ -1,6 +1,6 @@
 use Rattle.std.proofs.Common.{length, get_or, refl, subst, rules}
 use Rattle.words.specs.Words.{bits}
-use Rattle.policy.specs.Delegation.{slot_of}
+use Rattle.theory.specs.Delegation.{slot_of}
 use Rattle.rbac.proofs.Masks.{of}
 use Rattle.tables.specs.View.{policy_of, assign_of}
 use Rattle.deciding.specs.Slots.{slots_of}

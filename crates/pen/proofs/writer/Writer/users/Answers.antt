@@ -1,5 +1,5 @@
 use Rattle.std.proofs.Common.{◌≡◌, ◌/◌, ◌<◌, map, length, refl, ap, ◌∙◌, rules, arith, take_all}
-use Rattle.policy.specs.Tests.{listed as named}
+use Rattle.meaning.specs.Lists.{listed as named}
 use Rattle.words.specs.Words.{bits}
 use Rattle.words.proofs.Rows.{put_there}
 use Rattle.lines.specs.Lists.{number_of}

@@ -1,5 +1,5 @@
 use Rattle.std.proofs.Common.{◌≡◌, map, take, length}
-use Rattle.policy.specs.Tests.{listed as named}
+use Rattle.meaning.specs.Lists.{listed as named}
 use Rattle.words.specs.Words.{bits}
 use Rattle.lines.specs.Lists.{number_of}
 use Rattle.pen.proofs.writer.Writer.users.Given as goal

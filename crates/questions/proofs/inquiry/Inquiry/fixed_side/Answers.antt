@@ -1,6 +1,6 @@
 use Rattle.std.proofs.Common.{⊎_elim}
 use Rattle.std.proofs.lemmas.Bool.{both_ways}
-use Rattle.policy.specs.Sets.{Static}
+use Rattle.meaning.specs.Sets.{Static}
 use Rattle.tables.specs.View.{set_of}
 use Rattle.questions.proofs.Making.{askable}
 use Rattle.questions.proofs.inquiry.Inquiry.fixed_side.Goals as goal

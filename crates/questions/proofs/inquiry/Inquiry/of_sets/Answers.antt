@@ -1,6 +1,6 @@
 use Rattle.std.proofs.Common.{◌≤◌, ◌+◌, Decides, ◌∙◌, sym, inl, inr, ⊎_elim, arith}
 use Rattle.std.proofs.lemmas.Bool.{both_ways}
-use Rattle.policy.specs.Sets.{Static, SemiStatic}
+use Rattle.meaning.specs.Sets.{Static, SemiStatic}
 use Rattle.tables.specs.View.{set_of, question_of}
 use Rattle.questions.proofs.Making.{asked_told, few_told}
 use Rattle.questions.proofs.inquiry.Inquiry.of_sets.Goals as goal

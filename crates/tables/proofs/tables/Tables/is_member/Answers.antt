@@ -1,5 +1,5 @@
 use Rattle.std.proofs.Common.{Bool, Decides, sym, subst₂}
-use Rattle.policy.specs.Membership.{Member, Row}
+use Rattle.meaning.specs.Membership.{Member, Row}
 use Rattle.tables.specs.View.{policy_of}
 use Rattle.tables.proofs.tables.Tables.is_member.Goals as goal
 

@@ -1,7 +1,7 @@
 use Rattle.std.proofs.Common.{◌≡◌, ℕ, ◌+◌, ◌<◌, T, eqb, length, take, sym, ap, ◌∙◌, subst, add-one, arith, below_more}
 use mathlib.Core.Path.{subst⁻¹}
 use mathlib.Core.Bool.{beq}
-use Rattle.policy.specs.Runs.{after, end}
+use Rattle.meaning.specs.Runs.{after, end}
 use Rattle.questions.specs.Inquired.{inquired}
 use Rattle.tables.specs.View.{policy_of, state_of}
 use Rattle.deciding.specs.Slots.{slots_of}

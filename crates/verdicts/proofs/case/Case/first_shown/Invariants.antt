@@ -1,5 +1,5 @@
 use Rattle.std.proofs.Common.{◌≡◌, ℕ, ◌<◌, ◌≤◌, length, take}
-use Rattle.policy.specs.Runs.{end}
+use Rattle.meaning.specs.Runs.{end}
 use Rattle.questions.specs.Inquired.{inquired}
 use Rattle.tables.specs.View.{policy_of, state_of}
 use Rattle.deciding.specs.Slots.{slots_of}

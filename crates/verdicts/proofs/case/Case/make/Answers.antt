@@ -1,6 +1,6 @@
 use Rattle.std.proofs.Common.{◌≡◌, ℕ, ◌<◌, ◌≤◌, not, length, set, sym, ap, ◌∙◌, subst, arith, length-set}
 use mathlib.Core.Path.{subst⁻¹}
-use Rattle.policy.specs.Runs.{after}
+use Rattle.meaning.specs.Runs.{after}
 use Rattle.rbac.specs.Roles.{roles_of}
 use Rattle.rbac.proofs.Masks.{of}
 use Rattle.bounded.proofs.Listing.{few}

@@ -1,0 +1,12 @@
+pub mod Measures
+pub mod Sizes
+pub mod Lists
+pub mod Membership
+pub mod Rules
+pub mod Sets
+pub mod Runs
+pub mod Regimes
+pub mod Rows
+pub mod Witnesses
+pub mod Requirements
+pub mod Terms

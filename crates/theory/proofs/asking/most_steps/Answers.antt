@@ -1,0 +1,5 @@
+use Rattle.theory.proofs.Shown.{shown}
+use Rattle.theory.proofs.asking.most_steps.Goals as goal
+
+pub returns : goal.returns
+returns c = shown

@@ -1,0 +1,21 @@
+-- A board within its measures.
+use Rattle.std.specs.Prelude.{ℕ, ◌<◌, ◌≤◌, T, List, length}
+use Rattle.meaning.specs.Measures.{roles, rows, trusted_users}
+use Rattle.meaning.specs.Lists.{listed, Nth}
+use Rattle.meaning.specs.Membership.{User, Role, Permission, IsUser, State}
+use Rattle.meaning.specs.Rules.{AssignRule, Policy}
+use Rattle.meaning.specs.Rows.{Holder}
+
+-- all that is named is in range, and no more users have a row or are trusted than a board has places for
+pub record Measured (p : Policy) (s : State) : Type 0 where
+  pub rowed : List User
+  pub few_rows : length rowed ≤ rows
+  pub all_rowed : (u : User) → Holder s u → T (listed rowed u)
+  pub only_rowed : (u : User) → T (listed rowed u) → Holder s u
+  pub trusting : List User
+  pub few_trusted : length trusting ≤ trusted_users
+  pub all_trusted : (u : User) → T (p.trusted u) → T (listed trusting u)
+  pub assigned_inside : (u : User) (r : Role) → T (s u r) → IsUser u × (r < roles)
+  pub edges_inside : (q r : Role) → T (p.edge q r) → (q < roles) × (r < roles)
+  pub given_inside : (n : Permission) (r : Role) → T (p.gives n r) → r < roles
+  pub targets_inside : (k : ℕ) (rule : AssignRule) → Nth k rule p.assigns → (r : Role) → T (rule.targets r) → r < roles

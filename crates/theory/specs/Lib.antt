@@ -1,0 +1,13 @@
+pub mod Tests
+pub mod Reach
+pub mod Bounds
+pub mod Hire
+pub mod Laws
+pub mod Removing
+pub mod Verdicts
+pub mod Delegation
+pub mod Asking
+pub mod Lasting
+pub mod Granting
+pub mod Worked
+pub mod Premises
