@@ -1,5 +1,6 @@
 // A second step system beside seniority: the stages of a build pipeline, each open once the one before it is done.
-ghost use Rattle.foundation_checks.specs.Stages.{pipeline, pipeline_lawful};
+ghost use Rattle.std.proofs.Common.{inl, inr};
+ghost use Rattle.foundation_checks.specs.Stages.{pipeline};
 
 use steps::StepSystem;
 use words::has;
@@ -14,8 +15,6 @@ impl StepSystem for Pipeline {
 
     ghost means = { λ x. pipeline x.stages };
 
-    ghost lawful = { λ x. pipeline_lawful x.stages };
-
     fn facts(&self) -> usize {
         self.stages
     }
@@ -28,14 +27,15 @@ impl StepSystem for Pipeline {
         step
     }
 
-    fn is_open(&self, step: usize, facts: &[u64]) -> bool {
+    fn record(&self, step: usize, facts: &[u64]) -> Option<usize> {
         if step == 0 {
-            return true;
+            return Some(step);
         }
-        has(facts, step - 1)
+        if has(facts, step - 1) {
+            return Some(step);
+        }
+        None
     }
 
-    fn record(&self, step: usize, _facts: &[u64]) -> usize {
-        step
-    }
+    ghost lawful = { λ x. record { inside = λ s h. h; grows = λ s f g h. elim [ inl e ↦ inl e | inr e ↦ inr (h _ e) ] } };
 }

@@ -1,5 +1,6 @@
 pub mod Measures
 pub mod Sizes
+pub mod Ranks
 pub mod Lists
 pub mod Membership
 pub mod Rules

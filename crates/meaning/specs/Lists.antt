@@ -12,7 +12,7 @@ pub data Nth {A : Type 0} : ℕ → A → List A → Type 0 where
   first : {x : A} {xs : List A} → Nth 1 x (x ∷ xs)
   later : {k : ℕ} {x y : A} {xs : List A} → Nth k x xs → Nth (suc k) x (y ∷ xs)
 
--- no user twice; each of them has a row
+-- no user stands twice
 abbrev pub Apart : List User → Type 0
 Apart [] = Unit {0}
 Apart (u ∷ us) = T (not (listed us u)) × Apart us

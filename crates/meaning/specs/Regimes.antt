@@ -41,5 +41,5 @@ pub record Aar (p : Policy) (s : State) : Type 0 where
   pub revocable : AssignableIsRevocable p
 
 -- what the policy's regime asks of it in this state
-abbrev pub Regular : Policy → State → Type 0
-Regular p s = elim p.regime [ aatu ↦ Aatu p | aar ↦ Aar p s ]
+abbrev pub ObeysRegime : Policy → State → Type 0
+ObeysRegime p s = elim p.regime [ aatu ↦ Aatu p | aar ↦ Aar p s ]

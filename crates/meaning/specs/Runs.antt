@@ -41,16 +41,13 @@ abbrev pub end : State → List Change → State
 end s [] = s
 end s (x ∷ xs) = end (after x s) xs
 
--- P holds at the end of some run; P holds at the end of every run
-abbrev pub Reaches : Moves → State → (State → Type 0) → Type 0
-Reaches m s P = (run : List Change) × Run m s run × P (end s run)
-
+-- P holds at the end of every run
 abbrev pub Always : Moves → State → (State → Type 0) → Type 0
 Always m s P = (run : List Change) → Run m s run → P (end s run)
 
 -- possible: some run ends where the question holds; necessary: every run does
 abbrev pub Possible : Policy → State → Question → Type 0
-Possible p s q = Reaches (moves p) s (λ t. Holds p t q)
+Possible p s q = (run : List Change) × Run (moves p) s run × Holds p (end s run) q
 
 abbrev pub Necessary : Policy → State → Question → Type 0
 Necessary p s q = Always (moves p) s (λ t. Holds p t q)

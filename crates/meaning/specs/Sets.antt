@@ -29,11 +29,9 @@ In p row u (intersection x y) = In p row u x × In p row u y
 -- a set of roles as a condition; what is no role is met by nobody, as a role out of range is
 abbrev pub as_condition : UserSet → Condition
 as_condition (members r) = in_role r
-as_condition (holders n) = in_role roles
-as_condition (only u) = in_role roles
-as_condition nobody = in_role roles
 as_condition (union x y) = either (as_condition x) (as_condition y)
 as_condition (intersection x y) = both (as_condition x) (as_condition y)
+as_condition x = in_role roles
 
 -- the question `larger >= smaller`
 pub record Question : Type 0 where
@@ -59,12 +57,10 @@ SemiStatic q = Static q.larger ⊎ Static q.smaller
 
 -- the users that a set names, one by one; and those that the two sides of a question name
 abbrev pub named : UserSet → List User
-named (members r) = []
-named (holders n) = []
 named (only u) = u ∷ []
-named nobody = []
 named (union x y) = named x ++ named y
 named (intersection x y) = named x ++ named y
+named x = []
 
 abbrev pub names : Question → List User
 names q = named q.larger ++ named q.smaller

@@ -1,10 +1,13 @@
 -- Runs that show a verdict.
-use Rattle.std.specs.Prelude.{◌≡◌, ℕ, ◌<◌, T, ◌⊎◌, List, [], ◌∷◌, length, ◌≤◌, take}
+use Rattle.std.specs.Prelude.{◌≡◌, ℕ, ◌<◌, T, ◌⊎◌, List, [], ◌∷◌, length, ◌≤◌, take, Bool, true, false}
 use Rattle.meaning.specs.Lists.{listed}
 use Rattle.meaning.specs.Membership.{User, State}
-use Rattle.meaning.specs.Sets.{Question, names}
+use Rattle.meaning.specs.Sets.{Question, names, Holds}
 use Rattle.meaning.specs.Runs.{Change, adds, removes, Moves, Run, end}
 use Rattle.meaning.specs.Rows.{Holder}
+use Rattle.meaning.specs.Rules.{Policy}
+use Rattle.meaning.specs.declared.terms.Kind.{Kind}
+use Rattle.meaning.specs.declared.terms.Kind.TheVariants.{Possible, Necessary}
 
 -- the changes of a run all add; all remove
 abbrev pub OnlyAdds : List Change → Type 0
@@ -39,3 +42,13 @@ pub record Shows (m : Moves) (s : State) (q : Question) (sought : State → Type
   pub first : FirstAt s sought run
   pub names_few : NamesFew s q run
   pub short : length run ≤ n
+
+-- the question is true, or false, as sought
+abbrev pub Sought : Bool → Policy → Question → State → Type 0
+Sought true p q t = Holds p t q
+Sought false p q t = Holds p t q → ⊥
+
+-- a run shows that a question can become true, or that it need not be
+abbrev pub sought_by : Kind → Bool
+sought_by Possible = true
+sought_by Necessary = false

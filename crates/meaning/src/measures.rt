@@ -30,7 +30,7 @@ pub const WORK_WORDS: usize = TRACKED_USERS;
 
 pub const LIST_PLACES: usize = TRACKED_USERS * ROLES;
 
-// Every measure under its name.
+/// Every measure under its name.
 #[derive(Clone, Copy)]
 pub struct Sizes {
     pub users: usize,

@@ -1,53 +1,54 @@
 -- Which state decides which question.
 use Rattle.std.proofs.Common.{◌≡◌, ◌*◌, ◌↔◌, List, ◌∷◌, ◌++◌, subst}
 use mathlib.Core.Path.{subst⁻¹}
+use Rattle.meaning.specs.Measures.{roles, rows}
 use Rattle.meaning.specs.Membership.{State}
 use Rattle.meaning.specs.Rules.{Policy, aatu, aar, Regime}
 use Rattle.meaning.specs.Sets.{Question, Holds}
 use Rattle.meaning.specs.Runs.{Change, after, moves, Permitted, end, Possible}
-use Rattle.meaning.specs.Regimes.{Aatu, Aar, Regular}
-use Rattle.theory.specs.Bounds.{Measured}
+use Rattle.meaning.specs.Regimes.{Aatu, Aar, ObeysRegime}
+use Rattle.theory.specs.Bounds.{WithinMeasures}
 use Rattle.theory.specs.Hire.{Tracking, Closing}
-use Rattle.theory.specs.Verdicts.{Covers}
+use Rattle.theory.specs.Verdicts.{TracksNamedUsers}
 use Rattle.theory.specs.Asking.{VerdictExact}
-use Rattle.theory.specs.Lasting.{Lasts, Foreseen}
+use Rattle.theory.specs.Lasting.{PreservedByRuns, ReflectedByRuns}
 use Rattle.meaning.specs.Requirements.{Requirement, never, Stands}
 use Rattle.meaning.specs.declared.terms.Kind.TheVariants.{Possible as possible, Necessary as necessary}
 use Rattle.meaning.specs.declared.terms.Side.TheVariants.{Larger as larger, Smaller as smaller}
-use Rattle.theory.specs.declared.place.Place.TheVariants.{Floor as at_floor, Top as at_top}
+use Rattle.theory.specs.declared.place.Place.TheVariants.{LeastState as in_least, GreatestState as in_greatest}
 use Rattle.theory.proofs.Runs.{joined, ends}
 use Rattle.theory.proofs.Standing.{delegable}
 use Rattle.theory.proofs.Floor.{lowest}
 use Rattle.theory.proofs.Exact.{Answers, answers}
 
-exact : (p : Policy) (s : State) → Measured p s → Regular p s → (k : Tracking p s) (q : Question) → Covers k q → (run : List Change) → Closing (moves p) k run
+exact : (p : Policy) (s : State) → WithinMeasures p s → ObeysRegime p s → (k : Tracking p s) (q : Question) → TracksNamedUsers k q → (run : List Change) → Closing (moves p) k run
     → Answers (moves p) k (end s run) q
-exact p s board reg k q covers run c = answers k q covers (moves p) (delegable p s k) (100 * 64) (lowest p s board reg) run c
+exact p s board reg k q covers run c = answers k q covers (moves p) (delegable p s k) (rows * roles) (lowest p s board reg) run c
 
-pub possible_larger : VerdictExact possible larger at_floor
+pub possible_larger : VerdictExact possible larger in_least
 possible_larger p s board reg k q covers run c = (exact p s board reg k q covers run c).possible_larger
 
-pub possible_smaller : VerdictExact possible smaller at_top
+pub possible_smaller : VerdictExact possible smaller in_greatest
 possible_smaller p s board reg k q covers run c = (exact p s board reg k q covers run c).possible_smaller
 
-pub necessary_larger : VerdictExact necessary larger at_top
+pub necessary_larger : VerdictExact necessary larger in_greatest
 necessary_larger p s board reg k q covers run c = (exact p s board reg k q covers run c).necessary_larger
 
-pub necessary_smaller : VerdictExact necessary smaller at_floor
+pub necessary_smaller : VerdictExact necessary smaller in_least
 necessary_smaller p s board reg k q covers run c = (exact p s board reg k q covers run c).necessary_smaller
 
 -- what the regime asks, once it is known
-pub under_aatu : (p : Policy) (s : State) → p.regime ≡ aatu → Regular p s → Aatu p
+pub under_aatu : (p : Policy) (s : State) → p.regime ≡ aatu → ObeysRegime p s → Aatu p
 under_aatu p s e reg = subst (λ (r : Regime). let E : Type 0 = elim r [ aatu ↦ Aatu p | aar ↦ Aar p s ] in E) e reg
 
-pub under_aar : (p : Policy) (s : State) → p.regime ≡ aar → Regular p s → Aar p s
+pub under_aar : (p : Policy) (s : State) → p.regime ≡ aar → ObeysRegime p s → Aar p s
 under_aar p s e reg = subst (λ (r : Regime). let E : Type 0 = elim r [ aatu ↦ Aatu p | aar ↦ Aar p s ] in E) e reg
 
 -- a run from a reachable state is the rest of a run from the present one
-pub lasts : Lasts necessary
+pub lasts : PreservedByRuns necessary
 lasts p s run w q all more r = subst (λ (t : State). Holds p t q) (ends s run more) (all (run ++ more) (joined (moves p) s run more w r))
 
-pub foreseen : Foreseen possible
+pub foreseen : ReflectedByRuns possible
 foreseen p s run w q (more, r, h) = (run ++ more, joined (moves p) s run more w r, subst⁻¹ (λ (t : State). Holds p t q) (ends s run more) h)
 
 pub keeps_requirements : (p : Policy) (s : State) (x : Change) → Permitted (moves p) s x → (d : Requirement) → Stands p s d → Stands p (after x s) d

@@ -3,14 +3,14 @@ use Rattle.std.proofs.Common.{◌≡◌, ℕ, zero, suc, ◌<◌, Bool, not, ◌
 use mathlib.Core.Path.{subst⁻¹}
 use Rattle.std.proofs.lemmas.Bool.{cases_eq}
 use lib.Dec.{eqb_refl}
+use Rattle.meaning.specs.Measures.{users, roles}
 use Rattle.meaning.specs.Membership.{User, Role, Row, State, Senior, same, above, Member}
 use Rattle.meaning.proofs.Tests.{either, or_left, or_right, first, second, both, decide, clash}
 use Rattle.theory.proofs.Tests.{some_at, some_gives}
 use Rattle.theory.specs.Tests.{some}
 use Rattle.meaning.specs.Rules.{Policy}
 use Rattle.meaning.specs.Sets.{UserSet, members, holders, only, nobody, union, intersection, In, Question, Holds}
-use Rattle.theory.specs.Bounds.{Measured}
-use Rattle.theory.specs.Delegation.{TellsSenior}
+use Rattle.theory.specs.Bounds.{WithinMeasures}
 
 module _ (p : Policy) where
   -- a chain whose inner roles are below n
@@ -77,35 +77,33 @@ module _ (p : Policy) where
           pick (inr a) (inl b) = round (first (by n q n) (by n n m) a) (ih n m r low (second (by n q n) (by n n m) a) b)
           pick (inr a) (inr b) = round (first (by n q n) (by n n m) a) (second (by n m n) (by n n r) b)
 
-  abbrev pub down : Role → Role → Bool
-  down q r = by 64 q r
-
-  module _ (s : State) (fin : Measured p s) where
-    complete : {q r : ℕ} → Senior p.edge q r → T (by 64 q r)
-    complete {q} same = start 64 q q (or_left (eqb q q) (p.edge q q) (eqb_refl q))
+  module _ (inside : (q r : Role) → T (p.edge q r) → (q < roles) × (r < roles)) where
+    complete : {q r : ℕ} → Senior p.edge q r → T (by roles q r)
+    complete {q} same = start roles q q (or_left (eqb q q) (p.edge q q) (eqb_refl q))
     complete {q} {r} (above {r = m} e s) =
-        through 64 q m r (fin.edges_inside q m e).1 (start 64 q m (or_right (eqb q m) (p.edge q m) e)) (complete s)
+        through roles q m r (inside q m e).1 (start roles q m (or_right (eqb q m) (p.edge q m) e)) (complete s)
 
-    -- seniority is told by chains through roles in range
-    pub tells_senior : TellsSenior p down
-    tells_senior q r l = (sound 64 q r, complete)
+    -- whether one role is senior to another
+    pub senior? : (q r : Role) → Senior p.edge q r ⊎ (Senior p.edge q r → ⊥)
+    senior? q r = elim (decide (by roles q r)) [ inl t ↦ inl (sound roles q r t) | inr off ↦ inr (λ s. clash (by roles q r) (complete s) off) ]
 
+  module _ (s : State) (fin : WithinMeasures p s) where
     abbrev member_test : Row → ℕ → Bool
-    member_test row r = row r || some 64 (λ q. row q && by 64 q r)
+    member_test row r = row r || some roles (λ q. row q && by roles q r)
 
     member_in : (row : Row) (r : ℕ) → T (member_test row r) → Member p.edge row r
     member_in row r h = ⊎_elim
         (λ (t : T (row r)). (r, same, t))
-        (λ (t : T (some 64 (λ q. row q && by 64 q r))).
-        let (q, l, i) = some_gives 64 (λ q. row q && by 64 q r) t in
-        (q, sound 64 q r (second (row q) (by 64 q r) i), first (row q) (by 64 q r) i))
-        (either (row r) (some 64 (λ q. row q && by 64 q r)) h)
+        (λ (t : T (some roles (λ q. row q && by roles q r))).
+        let (q, l, i) = some_gives roles (λ q. row q && by roles q r) t in
+        (q, sound roles q r (second (row q) (by roles q r) i), first (row q) (by roles q r) i))
+        (either (row r) (some roles (λ q. row q && by roles q r)) h)
 
     member_out : (row : Row) (r q : ℕ) → Senior p.edge q r → T (row q) → T (member_test row r)
-    member_out row r q same h = or_left (row r) (some 64 (λ q. row q && by 64 q r)) h
+    member_out row r q same h = or_left (row r) (some roles (λ q. row q && by roles q r)) h
     member_out row r q (above {r = m} e s) h =
-        or_right (row r) (some 64 (λ q. row q && by 64 q r))
-        (some_at 64 (λ q. row q && by 64 q r) q (fin.edges_inside q m e).0 (both (row q) (by 64 q r) h (complete (above e s))))
+        or_right (row r) (some roles (λ q. row q && by roles q r))
+        (some_at roles (λ q. row q && by roles q r) q (fin.edges_inside q m e).0 (both (row q) (by roles q r) h (complete fin.edges_inside (above e s))))
 
     pub member? : (row : Row) (r : ℕ) → Member p.edge row r ⊎ (Member p.edge row r → ⊥)
     member? row r = ⊎_elim
@@ -138,9 +136,9 @@ module _ (p : Policy) where
     pub inside? : (row : Row) (u : ℕ) (x : UserSet) → In p row u x ⊎ (In p row u x → ⊥)
     inside? row u (members r) = member? row r
     inside? row u (holders k) = ⊎_elim
-        (λ (h : (r : ℕ) × (r < 64) × T (p.gives k r) × Member p.edge row r). inl (h.0, h.2, h.3))
-        (λ (h : ((r : ℕ) × (r < 64) × T (p.gives k r) × Member p.edge row r) → ⊥). inr (λ (m : In p row u (holders k)). h (m.0, fin.given_inside k m.0 m.1, m.1, m.2)))
-        (given? row k 64)
+        (λ (h : (r : ℕ) × (r < roles) × T (p.gives k r) × Member p.edge row r). inl (h.0, h.2, h.3))
+        (λ (h : ((r : ℕ) × (r < roles) × T (p.gives k r) × Member p.edge row r) → ⊥). inr (λ (m : In p row u (holders k)). h (m.0, fin.given_inside k m.0 m.1, m.1, m.2)))
+        (given? row k roles)
     inside? row u (only v) = cases_eq u v
     inside? row u nobody = inr (λ h. h)
     inside? row u (union x y) = go (inside? row u x) (inside? row u y)
@@ -183,4 +181,4 @@ module _ (p : Policy) where
         go (inl below) (inl h) (inr fails) = inr (n, omega arith, h, fails)
 
     pub holds? : (t : State) (q : Question) → Holds p t q ⊎ (Holds p t q → ⊥)
-    holds? t q = elim (holds_below? t q 65536) [ inl h ↦ inl h | inr (u, l, h, fails) ↦ inr (λ all. fails (all u l h)) ]
+    holds? t q = elim (holds_below? t q users) [ inl h ↦ inl h | inr (u, l, h, fails) ↦ inr (λ all. fails (all u l h)) ]

@@ -1,329 +1,234 @@
--- A trace of delegations that ends shut is a closing.
-use Rattle.std.proofs.Common.{◌≡◌, ℕ, ◌+◌, ◌*◌, ◌/◌, ◌%◌, ◌<◌, ◌≤◌, Bool, true, false, not, ◌&&◌, ◌||◌, T, eqb, ltb, ◌⊎◌, ◌↔◌, List, [], ◌∷◌, ◌++◌, length, get_or, sym, refl, ap, ◌∙◌, subst, subst₂, inl, inr, arith, eqb→eq, ltb→lt, lt→ltb}
-use mathlib.Core.Path.{subst⁻¹, subst₃, fun_ext}
+-- A trace of delegations that ends shut is a run among the users listed, at whose end nothing more can be added among them.
+use Rattle.std.proofs.Common.{◌≡◌, ℕ, suc, ◌+◌, ◌*◌, ◌/◌, ◌%◌, ◌<◌, ◌≤◌, Bool, false, not, ◌&&◌, ◌||◌, T, eqb, ltb, ◌⊎◌, List, [], ◌∷◌, ◌++◌, map, length, get_or, sym, refl, ap, ◌∙◌, subst, subst₂, inl, inr, arith, eqb→eq, ltb→lt, lt→ltb}
+use mathlib.Core.Path.{subst⁻¹, fun_ext}
 use lib.Dec.{eqb_refl}
+use Rattle.std.proofs.Math.Facts.{yes_eqb}
 use Rattle.steps.specs.Steps.{Facts, Lawful, Within, Trace, none, more}
-use Rattle.theory.specs.Tests.{some}
 use Rattle.words.specs.Words.{with}
-use Rattle.meaning.specs.Membership.{User, Role, Row, State, Member}
-use Rattle.meaning.specs.Rules.{Condition, everybody, in_role, AssignRule, Policy, MayAdd, Meets, both as all_of, either as any_of}
-use Rattle.meaning.specs.Lists.{Nth}
+use Rattle.meaning.specs.Measures.{roles, tracked_users, list_places}
+use Rattle.meaning.specs.Lists.{listed, Apart, Nth}
+use Rattle.meaning.specs.Membership.{User, Role, State}
+use Rattle.meaning.specs.Rules.{everybody, AssignRule, Policy, MayAdd}
 use Rattle.meaning.specs.Runs.{Change, adds, removes, pair, after, moves, Run, end}
-use Rattle.theory.specs.Reach.{◌⊑◌}
-use Rattle.theory.specs.Bounds.{Measured}
-use Rattle.theory.specs.Hire.{Tracking, Looked, ClosedHere}
 use Rattle.meaning.specs.Witnesses.{OnlyAdds, Each}
-use Rattle.theory.specs.Delegation.{TellsSenior, member_test, meets_test, Slots, row_at, is_looked, state_of, no_rule, rule_of, number_of, slot_of, role_of, some_actor, delegation, LawfulBelow, Shut, IsRun}
+use Rattle.theory.specs.Reach.{◌⊑◌}
+use Rattle.theory.specs.Bounds.{WithinMeasures}
+use Rattle.theory.specs.Hire.{Tracking, TrackedOrHire, ClosedAmongTracked}
+use Rattle.theory.specs.Delegation.{user_of, said_row, said, rule_number, slot_of, role_of, delegation, LawfulBelow, Shut, RunAmong, InSlots, IsRun}
 use Rattle.meaning.proofs.Tests.{either, or_left, or_right, first, second, both, deny, clash, agree, is_it, as_true, as_test, as_denied}
 use Rattle.theory.proofs.Tests.{some_at, some_gives}
 use Rattle.theory.proofs.Growing as Growing
-use Rattle.meaning.proofs.Numbered.{nth_at, at_nth}
+use Rattle.meaning.proofs.Numbered.{at_nth}
 use Rattle.theory.proofs.Runs.{joined, ends}
 use Rattle.theory.proofs.Floor.{each_joined}
 use Rattle.theory.proofs.Closes.{trace_short}
+use Rattle.theory.proofs.Places.{place, at_place, at_listed, one_place}
 
--- the tests say what the subject says
-module _ (p : Policy) (down : Role → Role → Bool) (is_down : TellsSenior p down) (row : Row) (small : (r : Role) → T (row r) → r < 64) where
-  pub member_test_lem : (r : Role) → T (member_test down row r) ↔ Member p.edge row r
-  member_test_lem r = (
-    (λ h. let (q, l, t) = some_gives 64 (λ q. row q && down q r) h in (q, (is_down q r l).0 (second (row q) (down q r) t), first (row q) (down q r) t)),
-    λ (q, s, h). some_at 64 (λ q. row q && down q r) q (small q h) (both (row q) (down q r) h ((is_down q r (small q h)).1 s)),
-  )
+any_rule : AssignRule
+any_rule = record { admin = 0; condition = everybody; targets = λ r. false }
 
-  pub meets_yes : (c : Condition) → T (meets_test down row c) → Meets p.edge row c
-  meets_yes everybody h = tt
-  meets_yes (in_role r) h = (member_test_lem r).0 h
-  meets_yes (all_of c d) h =
-      (meets_yes c (first (meets_test down row c) (meets_test down row d) h), meets_yes d (second (meets_test down row c) (meets_test down row d) h))
-  meets_yes (any_of c d) h = go (either (meets_test down row c) (meets_test down row d) h) (meets_yes c) (meets_yes d)
-    where
-      go : T (meets_test down row c) ⊎ T (meets_test down row d) → (T (meets_test down row c) → Meets p.edge row c) → (T (meets_test down row d) → Meets p.edge row d)
-          → Meets p.edge row c ⊎ Meets p.edge row d
-      go (inl h) f g = inl (f h)
-      go (inr h) f g = inr (g h)
+-- who may add may add where actor and user have more
+pub may_grow : (p : Policy) (t t' : State) (a u r n : ℕ) → t a ⊑ t' a → t u ⊑ t' u → MayAdd p t a u r n → MayAdd p t' a u r n
+may_grow p t t' a u r n wide-a wide-u m = record {
+  an_actor = m.an_actor;
+  a_user = m.a_user;
+  untrusted = m.untrusted;
+  rule = m.rule;
+  numbered = m.numbered;
+  target = m.target;
+  administers = Growing.member p.edge (t a) (t' a) wide-a m.rule.admin m.administers;
+  meets = Growing.meets p.edge (t u) (t' u) wide-u m.rule.condition m.meets;
+}
 
-  pub yes_meets : (c : Condition) → Meets p.edge row c → T (meets_test down row c)
-  yes_meets everybody h = tt
-  yes_meets (in_role r) h = (member_test_lem r).1 h
-  yes_meets (all_of c d) h = both (meets_test down row c) (meets_test down row d) (yes_meets c h.0) (yes_meets d h.1)
-  yes_meets (any_of c d) (inl h) = or_left (meets_test down row c) (meets_test down row d) (yes_meets c h)
-  yes_meets (any_of c d) (inr h) = or_right (meets_test down row c) (meets_test down row d) (yes_meets d h)
+module _ (us : List User) where
+  abbrev has : Facts → User → Role → ℕ → Bool
+  has f u r i = eqb (user_of us i) u && said_row f i r
 
-pub row_small : (f : Facts) (i r : ℕ) → T (row_at f i r) → r < 64
-row_small f i r h = ltb→lt r 64 (first (ltb r 64) (f (64 * i + r)) h)
+  -- who has a role has it in a slot
+  pub said_in : (f : Facts) (u r : ℕ) → T (said us f u r) → (i : ℕ) × (i < length us) × (user_of us i ≡ u) × T (said_row f i r)
+  said_in f u r h =
+      let (i, l, t) = some_gives (length us) (has f u r) h in
+      (i, l, eqb→eq (user_of us i) u (first (eqb (user_of us i) u) (said_row f i r) t), second (eqb (user_of us i) u) (said_row f i r) t)
 
-module _ {p : Policy} {s : State} (k : Tracking p s) (z : Slots k) where
-  pub look : (u : User) → Looked k u → T (is_looked k u)
-  look u (inl t) = or_left (k.tracked u) (eqb u k.hire) t
-  look u (inr e) = or_right (k.tracked u) (eqb u k.hire) (subst⁻¹ (λ (v : ℕ). T (eqb v k.hire)) e (eqb_refl k.hire))
+  pub in_said : (f : Facts) (i r : ℕ) → i < length us → T (said_row f i r) → T (said us f (user_of us i) r)
+  in_said f i r l h = some_at (length us) (has f (user_of us i) r) i l (both (eqb (user_of us i) (user_of us i)) (said_row f i r) (eqb_refl (user_of us i)) h)
 
-  pub unlook : (u : User) → T (is_looked k u) → Looked k u
-  unlook u h = go (either (k.tracked u) (eqb u k.hire) h)
-    where
-      go : T (k.tracked u) ⊎ T (eqb u k.hire) → Looked k u
-      go (inl t) = inl t
-      go (inr e) = inr (eqb→eq u k.hire e)
+  -- and is listed
+  pub said_listed : (f : Facts) (u r : ℕ) → T (said us f u r) → T (listed us u)
+  said_listed f u r h = let (i, l, e, t) = said_in f u r h in subst (λ (v : ℕ). T (listed us v)) e (at_listed us i l)
 
-  abbrev says : Facts → State
-  says f = state_of k z f
+  pub said_grows : (f g : Facts) → Within f g → (u : User) → said us f u ⊑ said us g u
+  said_grows f g up u r h =
+      let (i, l, e, t) = said_in f u r h in
+      let x : ℕ = roles * i + r in
+      subst (λ (v : ℕ). T (said us g v r)) e (in_said g i r l (both (ltb r roles) (g x) (first (ltb r roles) (f x) t) (as_test (g x) (up x (as_true (f x) (second (ltb r roles) (f x) t))))))
 
-  -- the row of a user that is looked at
-  pub says_row : (f : Facts) (u : User) → says f u ⊑ row_at f (z.slot u)
-  says_row f u r h = second (is_looked k u) (row_at f (z.slot u) r) h
+  module _ (apart : Apart us) where
+    -- the row of a slot's user
+    pub said_at : (f : Facts) (i : ℕ) → i < length us → said us f (user_of us i) ≡ said_row f i
+    said_at f i l = fun_ext (λ r. agree (said us f (user_of us i) r) (said_row f i r)
+        (λ h. let (j, m, e, t) = said_in f (user_of us i) r h in subst (λ (k : ℕ). T (said_row f k r)) (one_place us apart j i m l e) t)
+        (in_said f i r l))
 
-  pub row_says : (f : Facts) (u : User) → Looked k u → row_at f (z.slot u) ⊑ says f u
-  row_says f u l r h = both (is_looked k u) (row_at f (z.slot u) r) (look u l) h
+    -- one more fact is one adding
+    pub one_more : (f : Facts) (a i r n : ℕ) → i < length us → r < roles → said us (with f (roles * i + r)) ≡ after (adds a (user_of us i) r n) (said us f)
+    one_more f a i r n l small = fun_ext (λ u. fun_ext (λ q. agree (said us g u q) (said us f u q || pair (user_of us i) r u q) (there u q) (back u q)))
+      where
+        g : Facts
+        g = with f (roles * i + r)
 
-  pub slot_says : (f : Facts) (i : ℕ) → i < z.used → row_at f i ⊑ says f (z.user i)
-  slot_says f i l r h =
-      row_says f (z.user i) (z.filled i l).1 r (subst⁻¹ (λ (j : ℕ). T (row_at f j r)) (z.filled i l).2 h)
+        there : (u q : ℕ) → T (said us g u q) → T (said us f u q || pair (user_of us i) r u q)
+        there u q h = go (said_in g u q h)
+          where
+            go : (j : ℕ) × (j < length us) × (user_of us j ≡ u) × T (said_row g j q) → T (said us f u q || pair (user_of us i) r u q)
+            go (j, m, e, t) = pick (either (f x) (eqb x (roles * i + r)) (second (ltb q roles) (g x) t))
+              where
+                x : ℕ
+                x = roles * j + q
 
-  -- one more fact is one adding
-  pub one_more : (f : Facts) (a i r n : ℕ) → i < z.used → r < 64 → says (with f (64 * i + r)) ≡ after (adds a (z.user i) r n) (says f)
-  one_more f a i r n l small = fun_ext (λ u. fun_ext (λ q. agree (says (with f (64 * i + r)) u q) (after (adds a (z.user i) r n) (says f) u q) (there u q) (back u q)))
-    where
-      old : ℕ → ℕ → Bool
-      old u q = f (64 * z.slot u + q)
+                low : T (ltb q roles)
+                low = first (ltb q roles) (g x) t
 
-      new : ℕ → ℕ → Bool
-      new u q = eqb (64 * z.slot u + q) (64 * i + r)
+                pick : T (f x) ⊎ T (eqb x (roles * i + r)) → T (said us f u q || pair (user_of us i) r u q)
+                pick (inl old) = or_left (said us f u q) (pair (user_of us i) r u q) (subst (λ (v : ℕ). T (said us f v q)) e (in_said f j q m (both (ltb q roles) (f x) low old)))
+                pick (inr new) =
+                    let q-small : q < roles = ltb→lt q roles low in
+                    let same : roles * j + q ≡ roles * i + r = eqb→eq x (roles * i + r) new in
+                    let e₁ : j ≡ i = omega arith in
+                    let e₂ : q ≡ r = omega arith in
+                    or_right (said us f u q) (pair (user_of us i) r u q) (both (eqb u (user_of us i)) (eqb q r)
+                    (yes_eqb (sym e ∙ ap (user_of us) e₁)) (yes_eqb e₂))
 
-      there : (u q : ℕ) → T (says (with f (64 * i + r)) u q) → T (says f u q || pair (z.user i) r u q)
-      there u q h = go (either (old u q) (new u q) (second (ltb q 64) (old u q || new u q) row))
-        where
-          seen : T (is_looked k u)
-          seen = first (is_looked k u) (row_at (with f (64 * i + r)) (z.slot u) q) h
+        back : (u q : ℕ) → T (said us f u q || pair (user_of us i) r u q) → T (said us g u q)
+        back u q h = elim (either (said us f u q) (pair (user_of us i) r u q) h) [
+          | inl old ↦ said_grows f g (λ k t. as_true (g k) (or_left (f k) (eqb k (roles * i + r)) (as_test (f k) t))) u q old
+          | inr new ↦
+              let e = is_it (user_of us i) r u q new in
+              subst₂ (λ (v w : ℕ). T (said us g v w)) (sym e.0) (sym e.1)
+              (in_said g i r l (both (ltb r roles) (g (roles * i + r)) (lt→ltb r roles small) (or_right (f (roles * i + r)) (eqb (roles * i + r) (roles * i + r)) (eqb_refl (roles * i + r)))))
+        ]
 
-          row : T (ltb q 64 && (old u q || new u q))
-          row = second (is_looked k u) (row_at (with f (64 * i + r)) (z.slot u) q) h
+-- delegation keeps the law of step systems, whoever is listed
+pub lawful : {R : Type 0} (change_of : R → Change) (p : Policy) (us : List User) → Lawful (delegation change_of p us)
+lawful change_of p us = record {
+  inside = λ n l. omega arith;
+  grows = λ n f g up (l, (actor, (here, may))). (l, (actor, (here, may_grow p (said us f) (said us g) actor (user_of us (slot_of n)) (role_of n) (rule_number n) (said_grows us f g up actor) (said_grows us f g up (user_of us (slot_of n))) may)));
+}
 
-          low : T (ltb q 64)
-          low = first (ltb q 64) (old u q || new u q) row
+pub lawful_below : (p : Policy) (us : List User) → LawfulBelow (delegation (λ c. c) p us) list_places
+lawful_below p us = record { law = lawful (λ c. c) p us; below = λ n l. omega arith }
 
-          go : T (old u q) ⊎ T (new u q) → T (says f u q || pair (z.user i) r u q)
-          go (inl t) = or_left (says f u q) (pair (z.user i) r u q) (both (is_looked k u) (row_at f (z.slot u) q) seen (both (ltb q 64) (old u q) low t))
-          go (inr t) =
-              let q-small : q < 64 = ltb→lt q 64 low in
-              let e : 64 * z.slot u + q ≡ 64 * i + r = eqb→eq (64 * z.slot u + q) (64 * i + r) t in
-              let e₁ : z.slot u ≡ i = omega arith in
-              let e₂ : q ≡ r = omega arith in
-              let e₃ : u ≡ z.user i = sym (z.found u (unlook u seen)).1 ∙ ap z.user e₁ in
-              or_right (says f u q) (pair (z.user i) r u q) (both (eqb u (z.user i)) (eqb q r)
-              (subst⁻¹ (λ (v : ℕ). T (eqb v (z.user i))) e₃ (eqb_refl (z.user i)))
-              (subst⁻¹ (λ (v : ℕ). T (eqb v r)) e₂ (eqb_refl r)))
+adds_joined : (xs ys : List Change) → OnlyAdds xs → OnlyAdds ys → OnlyAdds (xs ++ ys)
+adds_joined [] ys h k = k
+adds_joined (adds a u r n ∷ xs) ys h k = adds_joined xs ys h k
+adds_joined (removes a u r n ∷ xs) ys h k = absurd h
 
-      back : (u q : ℕ) → T (says f u q || pair (z.user i) r u q) → T (says (with f (64 * i + r)) u q)
-      back u q h = go (either (says f u q) (pair (z.user i) r u q) h)
-        where
-          go : T (says f u q) ⊎ T (pair (z.user i) r u q) → T (says (with f (64 * i + r)) u q)
-          go (inl t) =
-              let row : T (ltb q 64 && old u q) = second (is_looked k u) (row_at f (z.slot u) q) t in
-              both (is_looked k u) (row_at (with f (64 * i + r)) (z.slot u) q) (first (is_looked k u) (row_at f (z.slot u) q) t)
-              (both (ltb q 64) (old u q || new u q) (first (ltb q 64) (old u q) row) (or_left (old u q) (new u q) (second (ltb q 64) (old u q) row)))
-          go (inr t) =
-              let e = is_it (z.user i) r u q t in
-              subst₂ (λ (v w : ℕ). T (says (with f (64 * i + r)) v w)) (sym e.0) (sym e.1)
-              (slot_says (with f (64 * i + r)) i l r (both (ltb r 64) (f (64 * i + r) || eqb (64 * i + r) (64 * i + r)) (lt→ltb r 64 small)
-              (or_right (f (64 * i + r)) (eqb (64 * i + r) (64 * i + r)) (eqb_refl (64 * i + r)))))
+map_last : {A B : Type 0} (f : A → B) (xs : List A) (x : A) → map f (xs ++ (x ∷ [])) ≡ map f xs ++ (f x ∷ [])
+map_last f [] x = refl
+map_last f (y ∷ xs) x = ap (λ zs. f y ∷ zs) (map_last f xs x)
 
-  module _ (down : Role → Role → Bool) (is_down : TellsSenior p down) where
-    -- whether the user of slot j may act, and what makes a step open, by its rule, slot and role
-    abbrev acts : Facts → Role → ℕ → Bool
-    acts f admin j = not (p.trusted (z.user j)) && member_test down (row_at f j) admin
+module _ {R : Type 0} (change_of : R → Change) (p : Policy) (us : List User) (few : length us ≤ tracked_users) (apart : Apart us) where
+  abbrev Among : List Change → Type 0
+  Among xs = Each (λ u. T (listed us u)) xs
 
-    abbrev body : Facts → AssignRule → ℕ → ℕ → Bool
-    body f rule i r = ltb i z.used && (rule.targets r && (some_actor k z down f rule.admin && meets_test down (row_at f i) rule.condition))
+  -- a run of addings so far
+  pub record Made (s : State) (run : List Change) (t : State) : Type 0 where
+    pub allowed : Run (moves p) s run
+    pub adding : OnlyAdds run
+    pub among : Among run
+    pub leaves : end s run ≡ t
 
-    -- an open step may be made by each of its actors, given by slot
-    pub opens_by : (f : Facts) (rule : AssignRule) (n i r j : ℕ) → Nth n rule p.assigns → T (body f rule i r) → j < z.used → T (acts f rule.admin j)
-        → (i < z.used) × MayAdd p (says f) (z.user j) (z.user i) r n
-    opens_by f rule n i r j nth h j-used t =
-        let S : Bool = some_actor k z down f rule.admin in
-        let M : Bool = meets_test down (row_at f i) rule.condition in
-        let l : i < z.used = ltb→lt i z.used (first (ltb i z.used) (rule.targets r && (S && M)) h) in
-        let h₁ : T (rule.targets r && (S && M)) = second (ltb i z.used) (rule.targets r && (S && M)) h in
-        let h₂ : T (S && M) = second (rule.targets r) (S && M) h₁ in (
-          l,
-          record {
-            an_actor = (z.filled j j-used).0;
-            a_user = (z.filled i l).0;
-            untrusted = first (not (p.trusted (z.user j))) (member_test down (row_at f j) rule.admin) t;
-            rule = rule;
-            numbered = nth;
-            target = first (rule.targets r) (S && M) h₁;
-            administers = Growing.member p.edge (row_at f j) (says f (z.user j)) (slot_says f j j-used) rule.admin
-                ((member_test_lem p down is_down (row_at f j) (row_small f j) rule.admin).0 (second (not (p.trusted (z.user j))) (member_test down (row_at f j) rule.admin) t));
-            meets = Growing.meets p.edge (row_at f i) (says f (z.user i)) (slot_says f i l) rule.condition
-                (meets_yes p down is_down (row_at f i) (row_small f i) rule.condition (second S M h₂));
-          },
-        )
+  -- a step taken is a permitted adding by and to listed users, and leaves what the facts then say
+  step : (f : Facts) (n : ℕ) (x : R) → (delegation change_of p us).opens n f → f (n % list_places) ≡ false → (delegation change_of p us).records n f x
+      → Made (said us f) (change_of x ∷ []) (said us (with f (n % list_places)))
+  step f n x o fresh (actor, is, (here, may)) =
+      let i : ℕ = slot_of n in
+      let r : ℕ = role_of n in
+      let l : i < length us = o.0 in
+      let fact : n % list_places ≡ roles * i + r = omega arith in
+      let small : r < roles = omega arith in
+      let new : T (not (said us f (user_of us i) r)) = deny (said us f (user_of us i) r) (λ h.
+      clash (f (n % list_places))
+      (subst⁻¹ (λ (x : ℕ). T (f x)) fact (second (ltb r roles) (f (roles * i + r)) (subst (λ (row : ℕ → Bool). T (row r)) (said_at us apart f i l) h)))
+      (as_denied (f (n % list_places)) fresh)) in
+      let made : Made (said us f) (adds actor (user_of us i) r (rule_number n) ∷ []) (said us (with f (n % list_places))) = record {
+        allowed = ((new, may), tt);
+        adding = tt;
+        among = (here, at_listed us i l, tt);
+        leaves = sym (subst⁻¹ (λ (x : ℕ). said us (with f x) ≡ after (adds actor (user_of us i) r (rule_number n)) (said us f)) fact (one_more us apart f actor i r (rule_number n) l small));
+      } in
+      subst⁻¹ (λ (d : Change). Made (said us f) (d ∷ []) (said us (with f (n % list_places)))) is made
 
-    -- and it has an actor
-    pub has_actor : (f : Facts) (rule : AssignRule) (i r : ℕ) → T (body f rule i r) → (j : ℕ) × (j < z.used) × T (acts f rule.admin j)
-    has_actor f rule i r h =
-        let S : Bool = some_actor k z down f rule.admin in
-        let M : Bool = meets_test down (row_at f i) rule.condition in
-        some_gives z.used (acts f rule.admin) (first S M (second (rule.targets r) (S && M) (second (ltb i z.used) (rule.targets r && (S && M)) h)))
+  pub traced : {start : Facts} {xs : List R} {f : Facts} → Trace (delegation change_of p us) start xs f → Made (said us start) (map change_of xs) (said us f)
+  traced none = record { allowed = tt; adding = tt; among = tt; leaves = refl }
+  traced {start} (more {rs = rs} {f = f} w n x lt o fresh is) =
+      let s = said us start in
+      let before = traced w in
+      let now : Made (end s (map change_of rs)) (change_of x ∷ []) (said us (with f (n % list_places))) = subst⁻¹ (λ (t : State). Made t (change_of x ∷ []) (said us (with f (n % list_places)))) before.leaves (step f n x o fresh is) in
+      subst⁻¹ (λ (cs : List Change). Made s cs (said us (with f (n % list_places)))) (map_last change_of rs x) (record {
+        allowed = joined (moves p) s (map change_of rs) (change_of x ∷ []) before.allowed now.allowed;
+        adding = adds_joined (map change_of rs) (change_of x ∷ []) before.adding now.adding;
+        among = each_joined (λ u. T (listed us u)) (map change_of rs) (change_of x ∷ []) before.among now.among;
+        leaves = ends s (map change_of rs) (change_of x ∷ []) ∙ now.leaves;
+      })
 
-    opened : (f : Facts) (a u r n : ℕ) → Looked k a → Looked k u → (m : MayAdd p (says f) a u r n) → T (body f m.rule (z.slot u) r)
-    opened f a u r n la lu m =
-        let S : Bool = some_actor k z down f m.rule.admin in
-        let M : Bool = meets_test down (row_at f (z.slot u)) m.rule.condition in
-        both (ltb (z.slot u) z.used) (m.rule.targets r && (S && M)) (lt→ltb (z.slot u) z.used (z.found u lu).0)
-        (both (m.rule.targets r) (S && M) m.target
-        (both S M
-        (some_at z.used (acts f m.rule.admin) (z.slot a) (z.found a la).0
-        (both (not (p.trusted (z.user (z.slot a)))) (member_test down (row_at f (z.slot a)) m.rule.admin)
-        (subst⁻¹ (λ (v : ℕ). T (not (p.trusted v))) (z.found a la).1 m.untrusted)
-        ((member_test_lem p down is_down (row_at f (z.slot a)) (row_small f (z.slot a)) m.rule.admin).1
-        (Growing.member p.edge (says f a) (row_at f (z.slot a)) (says_row f a) m.rule.admin m.administers))))
-        (yes_meets p down is_down (row_at f (z.slot u)) (row_small f (z.slot u)) m.rule.condition
-        (Growing.meets p.edge (says f u) (row_at f (z.slot u)) (says_row f u) m.rule.condition m.meets))))
+  module _ (targets_inside : (k : ℕ) (rule : AssignRule) → Nth k rule p.assigns → (r : Role) → T (rule.targets r) → r < roles) where
+    -- where no open step makes a new fact, nothing more can be added among the users listed
+    pub closed : (f : Facts) → Shut (delegation change_of p us) f
+        → (a u r n : ℕ) → T (listed us a) → T (listed us u) → MayAdd p (said us f) a u r n → T (said us f u r)
+    closed f done a u r n la lu m = go (at_nth any_rule m.numbered) (at_place us u lu)
+      where
+        small : r < roles
+        small = targets_inside n m.rule m.numbered r m.target
 
-    -- the rule of a step stands in the policy, under its number
-    pub ruled : (n : ℕ) → n < 8512 * length p.assigns → Nth (number_of n) (rule_of p n) p.assigns
-    ruled n l = nth_at no_rule p.assigns (n / 8512) (omega arith)
+        go : (k : ℕ) × (n ≡ suc k) × (k < length p.assigns) × (get_or p.assigns k any_rule ≡ m.rule)
+            → (place us u < length us) × (get_or us (place us u) 0 ≡ u) → T (said us f u r)
+        go (k, number, below, same) (l, at) =
+            let i : ℕ = place us u in
+            let x : ℕ = list_places * k + (roles * i + r) in
+            let low : r < roles = small in
+            let e₁ : x / list_places ≡ k = omega arith in
+            let e₂ : x % list_places ≡ roles * i + r = omega arith in
+            let e₃ : slot_of x ≡ i = omega arith in
+            let e₄ : role_of x ≡ r = omega arith in
+            let e₅ : rule_number x ≡ n = omega arith in
+            let who : user_of us (slot_of x) ≡ u = ap (user_of us) e₃ ∙ at in
+            let may : MayAdd p (said us f) a (user_of us (slot_of x)) (role_of x) (rule_number x) =
+            subst⁻¹ (λ (v : ℕ). MayAdd p (said us f) a v (role_of x) (rule_number x)) who (subst⁻¹ (λ (q : ℕ). MayAdd p (said us f) a u q (rule_number x)) e₄ (subst⁻¹ (λ (k : ℕ). MayAdd p (said us f) a u r k) e₅ m)) in
+            let made : T (f (x % list_places)) = as_test (f (x % list_places)) (done x (omega arith) (omega arith, (a, (la, may)))) in
+            subst (λ (v : ℕ). T (said us f v r)) at (in_said us f i r l (both (ltb r roles) (f (roles * i + r)) (lt→ltb r roles small) (subst (λ (y : ℕ). T (f y)) e₂ made)))
 
-    -- every open step has a record
-    pub recorded : (n : ℕ) (f : Facts) → n < 8512 * length p.assigns → (delegation k z down).opens n f ≡ true → (c : Change) × (delegation k z down).records n f c
-    recorded n f l o =
-        let h : T (body f (rule_of p n) (slot_of n) (role_of n)) = as_test (body f (rule_of p n) (slot_of n) (role_of n)) o in
-        let (j, j-used, t) = has_actor f (rule_of p n) (slot_of n) (role_of n) h in
-        (adds (z.user j) (z.user (slot_of n)) (role_of n) (number_of n), (j, j-used, refl, (opens_by f (rule_of p n) (number_of n) (slot_of n) (role_of n) j (ruled n l) h j-used t).1))
+    pub run_among : {start : Facts} {xs : List R} {f : Facts} → Trace (delegation change_of p us) start xs f → Shut (delegation change_of p us) f → RunAmong p us (said us start) (map change_of xs) (said us f)
+    run_among {f = f} w done =
+        let x = traced w in
+        record { lawful = x.allowed; adding = x.adding; among = x.among; ends = x.leaves; closed = closed f done }
 
-    -- a step taken is a permitted adding by and to users that are looked at, and leaves what the facts then say
-    record Step (t : State) (f : Facts) (n : ℕ) (c : Change) : Type 0 where
-      allowed : Run (moves p) t (c ∷ [])
-      adding : OnlyAdds (c ∷ [])
-      seen : Each (Looked k) (c ∷ [])
-      leaves : end t (c ∷ []) ≡ says (with f (n % 8512))
+each_more : (P Q : User → Type 0) → ((u : User) → P u → Q u) → (xs : List Change) → Each P xs → Each Q xs
+each_more P Q f [] h = tt
+each_more P Q f (adds a u r k ∷ xs) h = (f a h.0, f u h.1, each_more P Q f xs h.2)
+each_more P Q f (removes a u r k ∷ xs) h = (f a h.0, f u h.1, each_more P Q f xs h.2)
 
-    step : (f : Facts) (n : ℕ) (c : Change) → n < 8512 * length p.assigns → (delegation k z down).opens n f ≡ true → f (n % 8512) ≡ false → (delegation k z down).records n f c → Step (says f) f n c
-    step f n c lt o fresh (j, j-used, e, may) =
-        let i : ℕ = slot_of n in
-        let r : ℕ = role_of n in
-        let h : T (body f (rule_of p n) i r) = as_test (body f (rule_of p n) i r) o in
-        let S : Bool = some_actor k z down f (rule_of p n).admin in
-        let M : Bool = meets_test down (row_at f i) (rule_of p n).condition in
-        let l : i < z.used = ltb→lt i z.used (first (ltb i z.used) ((rule_of p n).targets r && (S && M)) h) in
-        let fact : n % 8512 ≡ 64 * i + r = omega arith in
-        let small : r < 64 = omega arith in
-        let new : T (not (says f (z.user i) r)) = deny (says f (z.user i) r) (λ h.
-        clash (f (n % 8512))
-        (subst⁻¹ (λ (x : ℕ). T (f x)) fact (second (ltb r 64) (f (64 * i + r)) (subst (λ (j : ℕ). T (row_at f j r)) (z.filled i l).2 (says_row f (z.user i) r h))))
-        (as_denied (f (n % 8512)) fresh)) in
-        let made : Step (says f) f n (adds (z.user j) (z.user i) r (number_of n)) = record {
-          allowed = ((new, may), tt);
-          adding = tt;
-          seen = ((z.filled j j-used).1, (z.filled i l).1, tt);
-          leaves = sym (subst⁻¹ (λ (x : ℕ). says (with f x) ≡ after (adds (z.user j) (z.user i) r (number_of n)) (says f)) fact (one_more f (z.user j) i r (number_of n) l small));
-        } in
-        subst⁻¹ (λ (d : Change). Step (says f) f n d) e made
+map_same : {A : Type 0} (xs : List A) → map (λ x. x) xs ≡ xs
+map_same [] = refl
+map_same (x ∷ xs) = ap (λ ys. x ∷ ys) (map_same xs)
 
-    adds_joined : (xs ys : List Change) → OnlyAdds xs → OnlyAdds ys → OnlyAdds (xs ++ ys)
-    adds_joined [] ys h k = k
-    adds_joined (adds a u r n ∷ xs) ys h k = adds_joined xs ys h k
-    adds_joined (removes a u r n ∷ xs) ys h k = absurd h
+-- such a run from the present state is a closing
+pub among_closing : {p : Policy} {s : State} (k : Tracking p s) (us : List User) → InSlots k us → (run : List Change) (f : Facts) (n : ℕ)
+    → length run ≤ n → RunAmong p us s run (said us f) → IsRun k us run f n
+among_closing {p} {s} k us z run f n short w = record {
+  closing = record {
+    lawful = w.lawful;
+    adding = w.adding;
+    closed = subst⁻¹ (λ (t : State). ClosedAmongTracked (moves p) k t) w.ends (λ a u r n la lu m. w.closed a u r n ((z.looked a).1 la) ((z.looked u).1 lu) m);
+  };
+  looked = each_more (λ u. T (listed us u)) (TrackedOrHire k) (λ u. (z.looked u).0) run w.among;
+  ends = w.ends;
+  short = short;
+}
 
-    record Traced (run : List Change) (f : Facts) : Type 0 where
-      lawful : Run (moves p) s run
-      adding : OnlyAdds run
-      seen : Each (Looked k) run
-      leaves : end s run ≡ says f
-
-    module _ (start : Facts) (starts : says start ≡ s) where
-      traced : {run : List Change} {f : Facts} → Trace (delegation k z down) start run f → Traced run f
-      traced none = record { lawful = tt; adding = tt; seen = tt; leaves = sym starts }
-      traced (more {rs = rs} {f = f} w n c lt o fresh is) =
-          let before = traced w in
-          let now : Step (end s rs) f n c = subst⁻¹ (λ (t : State). Step t f n c) before.leaves (step f n c lt o fresh is) in
-          record {
-            lawful = joined (moves p) s rs (c ∷ []) before.lawful now.allowed;
-            adding = adds_joined rs (c ∷ []) before.adding now.adding;
-            seen = each_joined (Looked k) rs (c ∷ []) before.seen now.seen;
-            leaves = ends s rs (c ∷ []) ∙ now.leaves;
-          }
-
-    pub shut : Measured p s → (f : Facts) → Shut (delegation k z down) f → ClosedHere (moves p) k (says f)
-    shut board f done a u r n la lu m =
-        let small : r < 64 = board.targets_inside n m.rule m.numbered r m.target in
-        let few : z.used ≤ 133 = z.few in
-        let below : z.slot u < z.used = (z.found u lu).0 in
-        let (at, e₀, rule-below, same) = at_nth no_rule m.numbered in
-        let x : ℕ = 8512 * at + (64 * z.slot u + r) in
-        let e₁ : x / 8512 ≡ at = omega arith in
-        let e₂ : x % 8512 ≡ 64 * z.slot u + r = omega arith in
-        let e₃ : x % 8512 / 64 ≡ z.slot u = omega arith in
-        let e₄ : x % 64 ≡ r = omega arith in
-        let e₅ : rule_of p x ≡ m.rule = ap (λ (i : ℕ). get_or p.assigns i no_rule) e₁ ∙ same in
-        let open_at : T (body f (rule_of p x) (x % 8512 / 64) (x % 64)) =
-        subst₃ (λ (rule : AssignRule) (i r : ℕ). T (body f rule i r)) (sym e₅) (sym e₃) (sym e₄) (opened f a u r n la lu m) in
-        let made : T (f (x % 8512)) = as_test (f (x % 8512)) (done x (omega arith) (as_true (body f (rule_of p x) (x % 8512 / 64) (x % 64)) open_at)) in
-        row_says f u lu r (both (ltb r 64) (f (64 * z.slot u + r)) (lt→ltb r 64 small) (subst (λ (y : ℕ). T (f y)) e₂ made))
-
--- the law of the delegation system: an open step stays open under more facts
-some_grows : (n : ℕ) (f g : ℕ → Bool) → ((k : ℕ) → T (f k) → T (g k)) → T (some n f) → T (some n g)
-some_grows n f g up h = let (k, l, t) = some_gives n f h in some_at n g k l (up k t)
-
-and_grows : (a b c d : Bool) → (T a → T c) → (T b → T d) → T (a && b) → T (c && d)
-and_grows a b c d f g h = both c d (f (first a b h)) (g (second a b h))
-
-pub member_grows : (down : ℕ → ℕ → Bool) (x y : Row) → x ⊑ y → (r : ℕ) → T (member_test down x r) → T (member_test down y r)
-member_grows down x y up r =
-    some_grows 64 (λ q. x q && down q r) (λ q. y q && down q r) (λ q. and_grows (x q) (down q r) (y q) (down q r) (up q) (λ h. h))
-
-pub meets_grows : (down : ℕ → ℕ → Bool) (x y : Row) → x ⊑ y → (c : Condition) → T (meets_test down x c) → T (meets_test down y c)
-meets_grows down x y up everybody h = tt
-meets_grows down x y up (in_role r) h = member_grows down x y up r h
-meets_grows down x y up (all_of c d) h =
-    and_grows (meets_test down x c) (meets_test down x d) (meets_test down y c) (meets_test down y d) (meets_grows down x y up c) (meets_grows down x y up d) h
-meets_grows down x y up (any_of c d) h =
-    elim (either (meets_test down x c) (meets_test down x d) h) [
-      | inl t ↦ or_left (meets_test down y c) (meets_test down y d) (meets_grows down x y up c t)
-      | inr t ↦ or_right (meets_test down y c) (meets_test down y d) (meets_grows down x y up d t)
-    ]
-
-pub row_grows : (f g : Facts) → f ⊑ g → (i : ℕ) → row_at f i ⊑ row_at g i
-row_grows f g up i r = and_grows (ltb r 64) (f (64 * i + r)) (ltb r 64) (g (64 * i + r)) (λ h. h) (up (64 * i + r))
-
-pub lawful : (p : Policy) (s : State) (k : Tracking p s) (z : Slots k) (down : Role → Role → Bool) → Lawful (delegation k z down)
-lawful p s k z down = record { inside = λ n l. omega arith; grows = grows }
-  where
-    grows : (n : ℕ) (f g : Facts) → Within f g → (delegation k z down).opens n f ≡ true → (delegation k z down).opens n g ≡ true
-    grows n f g up e =
-        let rule : AssignRule = rule_of p n in
-        let i : ℕ = slot_of n in
-        let t : Bool = rule.targets (role_of n) in
-        let A : Facts → ℕ → Bool = λ f j. not (p.trusted (z.user j)) && member_test down (row_at f j) rule.admin in
-        let S : Facts → Bool = λ f. some z.used (A f) in
-        let M : Facts → Bool = λ f. meets_test down (row_at f i) rule.condition in
-        let all : Facts → Bool = λ f. ltb i z.used && (t && (S f && M f)) in
-        let wide : f ⊑ g = λ k h. as_test (g k) (up k (as_true (f k) h)) in
-        as_true (all g)
-        (and_grows (ltb i z.used) (t && (S f && M f)) (ltb i z.used) (t && (S g && M g)) (λ h. h)
-        (and_grows t (S f && M f) t (S g && M g) (λ h. h)
-        (and_grows (S f) (M f) (S g) (M g)
-        (some_grows z.used (A f) (A g) (λ j. and_grows (not (p.trusted (z.user j))) (member_test down (row_at f j) rule.admin) (not (p.trusted (z.user j))) (member_test down (row_at g j) rule.admin) (λ h. h)
-        (member_grows down (row_at f j) (row_at g j) (row_grows f g wide j) rule.admin)))
-        (meets_grows down (row_at f i) (row_at g i) (row_grows f g wide i) rule.condition)))
-        (as_test (all f) e))
-
-pub lawful_below : (p : Policy) (s : State) (k : Tracking p s) (z : Slots k) (down : Role → Role → Bool) → LawfulBelow (delegation k z down) 8512
-lawful_below p s k z down = record { law = lawful p s k z down; below = λ n l. omega arith }
-
--- a trace that ends shut is a closing
-pub is_run : {p : Policy} {s : State} (k : Tracking p s) (z : Slots k) (down : Role → Role → Bool) → TellsSenior p down
-    → Measured p s → (start : Facts) → ((u : User) (r : Role) → state_of k z start u r ≡ s u r)
-    → (run : List Change) (f : Facts) → Trace (delegation k z down) start run f → Shut (delegation k z down) f → IsRun k z run f 8512
-is_run {p} {s} k z down tells board start starts run f w done =
-    let x = traced k z down tells start (fun_ext (λ u. fun_ext (λ r. starts u r))) w in
-    record {
-      closing = record {
-        lawful = x.lawful;
-        adding = x.adding;
-        closed = subst⁻¹ (λ (t : State). ClosedHere (moves p) k t) x.leaves (shut k z down tells board f done);
-      };
-      looked = x.seen;
-      ends = x.leaves;
-      short = trace_short (delegation k z down) (lawful p s k z down) start w;
-    }
+pub is_run : {p : Policy} {s : State} → WithinMeasures p s → (k : Tracking p s) (us : List User) → InSlots k us → (start : Facts) → ((u : User) (r : Role) → said us start u r ≡ s u r)
+    → (run : List Change) (f : Facts) → Trace (delegation (λ c. c) p us) start run f → Shut (delegation (λ c. c) p us) f → IsRun k us run f list_places
+is_run {p} {s} board k us z start starts run f w done =
+    let x = run_among (λ c. c) p us z.few z.apart board.targets_inside w done in
+    among_closing k us z run f list_places (trace_short (delegation (λ c. c) p us) (lawful (λ c. c) p us) start w)
+    (subst (λ (t : State). RunAmong p us t run (said us f)) (fun_ext (λ u. fun_ext (λ r. starts u r))) (subst (λ (cs : List Change). RunAmong p us (said us start) cs (said us f)) (map_same run) x))

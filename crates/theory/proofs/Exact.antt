@@ -7,12 +7,12 @@ use Rattle.meaning.specs.Lists.{listed}
 use Rattle.meaning.specs.Membership.{User, Row, State}
 use Rattle.meaning.specs.Rules.{Policy}
 use Rattle.meaning.specs.Sets.{UserSet, members, holders, only, nobody, union, intersection, In, Question, Holds, Static, named}
-use Rattle.meaning.specs.Runs.{Change, Moves, end, Reaches, Always}
-use Rattle.theory.specs.Reach.{◌⊆◌, revocable, floor}
-use Rattle.theory.specs.Hire.{Tracking, stand, spread, Looked, Closing, ForEverybody}
+use Rattle.meaning.specs.Runs.{Change, Moves, end, Always}
+use Rattle.theory.specs.Reach.{◌⊆◌, revocable, least_state, Reaches}
+use Rattle.theory.specs.Hire.{Tracking, representative, by_representatives, TrackedOrHire, Closing, IsGreatestState}
 use Rattle.theory.specs.Laws.{Delegable}
-use Rattle.theory.specs.Verdicts.{Covers, HoldsHere}
-use Rattle.theory.specs.Removing.{Falls}
+use Rattle.theory.specs.Verdicts.{TracksNamedUsers, HoldsAmongTracked}
+use Rattle.theory.specs.Removing.{RunToLeastState}
 use Rattle.meaning.proofs.Tests.{decide, clash, first, or_left, listed_left, listed_right}
 use Rattle.theory.proofs.Growing.{inside}
 use Rattle.theory.proofs.Runs.{enclosed, floored}
@@ -58,12 +58,12 @@ tracks p f row u (intersection a b) z w h = tracks p f row u a z.0 (λ x i. w x 
 
 -- the four cases: by which side is static, and whether some run or every run is asked for, the verdict is the question's truth at the floor or at the closing's end
 pub record Answers {p : Policy} {s : State} (m : Moves) (k : Tracking p s) (top : State) (q : Question) : Type 0 where
-  pub possible_larger : Static q.larger → Reaches m s (λ t. Holds p t q) ↔ HoldsHere k (floor p s) q
-  pub possible_smaller : Static q.smaller → Reaches m s (λ t. Holds p t q) ↔ HoldsHere k top q
-  pub necessary_larger : Static q.larger → Always m s (λ t. Holds p t q) ↔ HoldsHere k top q
-  pub necessary_smaller : Static q.smaller → Always m s (λ t. Holds p t q) ↔ HoldsHere k (floor p s) q
+  pub possible_larger : Static q.larger → Reaches m s (λ t. Holds p t q) ↔ HoldsAmongTracked k (least_state p s) q
+  pub possible_smaller : Static q.smaller → Reaches m s (λ t. Holds p t q) ↔ HoldsAmongTracked k top q
+  pub necessary_larger : Static q.larger → Always m s (λ t. Holds p t q) ↔ HoldsAmongTracked k top q
+  pub necessary_smaller : Static q.smaller → Always m s (λ t. Holds p t q) ↔ HoldsAmongTracked k (least_state p s) q
 
-module _ {p : Policy} {s : State} (k : Tracking p s) (q : Question) (covers : Covers k q) where
+module _ {p : Policy} {s : State} (k : Tracking p s) (q : Question) (covers : TracksNamedUsers k q) where
   abbrev x : UserSet
   x = q.larger
 
@@ -77,88 +77,88 @@ module _ {p : Policy} {s : State} (k : Tracking p s) (q : Question) (covers : Co
   wy u i = covers u (listed_right (named x) (named y) u i)
 
   -- over all users and over those that are looked at
-  widely : (t : State) → HoldsHere k t q → Holds p (spread k t) q
+  widely : (t : State) → HoldsAmongTracked k t q → Holds p (by_representatives k t) q
   widely t here u u-user h = go (decide (k.tracked u))
     where
-      go : T (k.tracked u) ⊎ T (not (k.tracked u)) → In p (spread k t u) u x
+      go : T (k.tracked u) ⊎ T (not (k.tracked u)) → In p (by_representatives k t u) u x
       go (inl old) = subst⁻¹ (λ (v : User). In p (t v) u x) (Hire.old k u old) (here u u-user (inl old) (subst (λ (v : User). In p (t v) u y) (Hire.old k u old) h))
       go (inr new) =
           let there : In p (t k.hire) u y = subst (λ (v : User). In p (t v) u y) (Hire.new k u new) h in
           let yes-y : In p (t k.hire) k.hire y = alike p k.tracked (t k.hire) u k.hire new y wy there in
-          let yes-x : In p (t k.hire) k.hire x = here k.hire k.hire_user (inr refl) yes-y in
-          subst⁻¹ (λ (v : User). In p (t v) u x) (Hire.new k u new) (alike p k.tracked (t k.hire) k.hire u k.hire_new x wx yes-x)
+          let yes-x : In p (t k.hire) k.hire x = here k.hire k.hire_is_user (inr refl) yes-y in
+          subst⁻¹ (λ (v : User). In p (t v) u x) (Hire.new k u new) (alike p k.tracked (t k.hire) k.hire u k.hire_not_tracked x wx yes-x)
 
-  self : (u : User) → Looked k u → stand k u ≡ u
+  self : (u : User) → TrackedOrHire k u → representative k u ≡ u
   self u (inl old) = Hire.old k u old
-  self u (inr e) = subst⁻¹ (λ (v : User). stand k v ≡ v) e (Hire.new k k.hire k.hire_new)
+  self u (inr e) = subst⁻¹ (λ (v : User). representative k v ≡ v) e (Hire.new k k.hire k.hire_not_tracked)
 
-  closely : (t : State) → Holds p (spread k t) q → HoldsHere k t q
+  closely : (t : State) → Holds p (by_representatives k t) q → HoldsAmongTracked k t q
   closely t all u u-user look h =
       subst (λ (v : User). In p (t v) u x) (self u look) (all u u-user (subst⁻¹ (λ (v : User). In p (t v) u y) (self u look) h))
 
   -- where the smaller side is static, only tracked users are in it
-  pub static_widely : Static y → (t : State) → HoldsHere k t q → Holds p t q
+  pub static_widely : Static y → (t : State) → HoldsAmongTracked k t q → Holds p t q
   static_widely z t here u u-user i = here u u-user (inl (tracks p k.tracked (t u) u y z wy i)) i
 
   -- the floor is alike at all users that are not tracked: they have no row
-  floor_up : floor p s ⊆ spread k (floor p s)
-  floor_up u r h = Hire.by_stand k (λ v. T (floor p s v r)) u (λ t. h) (λ t. absurd (k.others_new u r t (first (s u r) (not (revocable p.revokes r)) h)))
+  floor_up : least_state p s ⊆ by_representatives k (least_state p s)
+  floor_up u r h = Hire.by_stand k (λ v. T (least_state p s v r)) u (λ t. h) (λ t. absurd (k.others_hold_nothing u r t (first (s u r) (not (revocable p.revokes r)) h)))
 
-  floor_down : spread k (floor p s) ⊆ floor p s
-  floor_down u r = Hire.by_stand k (λ v. T (floor p s v r) → T (floor p s u r)) u (λ t h. h)
-      (λ t h. absurd (k.others_new k.hire r k.hire_new (first (s k.hire r) (not (revocable p.revokes r)) h)))
+  floor_down : by_representatives k (least_state p s) ⊆ least_state p s
+  floor_down u r = Hire.by_stand k (λ v. T (least_state p s v r) → T (least_state p s u r)) u (λ t h. h)
+      (λ t h. absurd (k.others_hold_nothing k.hire r k.hire_not_tracked (first (s k.hire r) (not (revocable p.revokes r)) h)))
 
-  pub floor_widely : HoldsHere k (floor p s) q → Holds p (floor p s) q
+  pub floor_widely : HoldsAmongTracked k (least_state p s) q → Holds p (least_state p s) q
   floor_widely here u u-user h =
-      inside p (spread k (floor p s) u) (floor p s u) (floor_down u) u x
-      (widely (floor p s) here u u-user (inside p (floor p s u) (spread k (floor p s) u) (floor_up u) u y h))
+      inside p (by_representatives k (least_state p s) u) (least_state p s u) (floor_down u) u x
+      (widely (least_state p s) here u u-user (inside p (least_state p s u) (by_representatives k (least_state p s) u) (floor_up u) u y h))
 
-  floor_closely : Holds p (floor p s) q → HoldsHere k (floor p s) q
+  floor_closely : Holds p (least_state p s) q → HoldsAmongTracked k (least_state p s) q
   floor_closely all u u-user look h = all u u-user h
 
-  module _ (m : Moves) (law : Delegable m k) (n : ℕ) (low : (down : List Change) × Falls m p s n down) (run : List Change) (c : Closing m k run) where
+  module _ (m : Moves) (law : Delegable m k) (n : ℕ) (low : (down : List Change) × RunToLeastState m p s n down) (run : List Change) (c : Closing m k run) where
     abbrev top : State
     top = end s run
 
-    everybody : ForEverybody m k top users
+    everybody : IsGreatestState m k top users
     everybody = Hire.for_everybody k m law run c
 
-    from_floor : Always m s (λ t. floor p s ⊆ t)
+    from_floor : Always m s (λ t. least_state p s ⊆ t)
     from_floor = floored m p law.removable s
 
-    to_top : Always m s (λ t. t ⊆ spread k top)
-    to_top = enclosed m (λ t t' a u r j more. law.grows t t' a u r j (more a) (more u)) (spread k top) everybody.closed s everybody.above
+    to_top : Always m s (λ t. t ⊆ by_representatives k top)
+    to_top = enclosed m (λ t t' a u r j more. law.grows t t' a u r j (more a) (more u)) (by_representatives k top) everybody.closed s everybody.above
 
-    at_floor : (P : State → Type 0) → P (floor p s) → P (end s low.0)
+    at_floor : (P : State → Type 0) → P (least_state p s) → P (end s low.0)
     at_floor P h = subst⁻¹ P low.1.ends h
 
     pub answers : Answers m k top q
     answers = record {
       possible_larger = λ z. (
         (λ (xs, r, h). floor_closely (λ u u-user i.
-            static p (end s xs u) (floor p s u) u x z
-            (h u u-user (inside p (floor p s u) (end s xs u) (from_floor xs r u) u y i)))),
+            static p (end s xs u) (least_state p s u) u x z
+            (h u u-user (inside p (least_state p s u) (end s xs u) (from_floor xs r u) u y i)))),
         λ here. (low.0, low.1.lawful, at_floor (λ t. Holds p t q) (floor_widely here)),
       );
       possible_smaller = λ z. (
         (λ (xs, r, h). closely top (λ u u-user i.
-            inside p (end s xs u) (spread k top u) (to_top xs r u) u x
-            (h u u-user (static p (spread k top u) (end s xs u) u y z i)))),
+            inside p (end s xs u) (by_representatives k top u) (to_top xs r u) u x
+            (h u u-user (static p (by_representatives k top u) (end s xs u) u y z i)))),
         λ here. (run, c.lawful, static_widely z top here),
       );
       necessary_larger = λ z. (
         (λ all. closely top (λ u u-user i.
             let (xs, r, high) = everybody.each u u-user in
-            static p (end s xs u) (spread k top u) u x z
-            (all xs r u u-user (inside p (spread k top u) (end s xs u) high u y i)))),
+            static p (end s xs u) (by_representatives k top u) u x z
+            (all xs r u u-user (inside p (by_representatives k top u) (end s xs u) high u y i)))),
         λ here xs r u u-user i.
-            static p (spread k top u) (end s xs u) u x z
-            (widely top here u u-user (inside p (end s xs u) (spread k top u) (to_top xs r u) u y i)),
+            static p (by_representatives k top u) (end s xs u) u x z
+            (widely top here u u-user (inside p (end s xs u) (by_representatives k top u) (to_top xs r u) u y i)),
       );
       necessary_smaller = λ z. (
         (λ all. floor_closely (subst (λ (t : State). Holds p t q) low.1.ends (all low.0 low.1.lawful))),
         λ here xs r u u-user i.
-            inside p (floor p s u) (end s xs u) (from_floor xs r u) u x
-            (floor_widely here u u-user (static p (end s xs u) (floor p s u) u y z i)),
+            inside p (least_state p s u) (end s xs u) (from_floor xs r u) u x
+            (floor_widely here u u-user (static p (end s xs u) (least_state p s u) u y z i)),
       );
     }

@@ -3,7 +3,7 @@ use Rattle.std.proofs.Common.{inl, inr}
 use Rattle.meaning.specs.Membership.{User, Role, Row, Edges, Member}
 use Rattle.meaning.specs.Rules.{Condition, everybody, in_role, both, either, Meets, Policy}
 use Rattle.meaning.specs.Sets.{UserSet, members, holders, only, nobody, union, intersection, In}
-use Rattle.theory.specs.Reach.{◌⊑◌, Larger}
+use Rattle.theory.specs.Reach.{◌⊑◌, MoreAuthority}
 
 module _ (edge : Edges) (x y : Row) (more : x ⊑ y) where
   pub member : (r : Role) → Member edge x r → Member edge y r
@@ -26,5 +26,5 @@ module _ (p : Policy) (x y : Row) (more : x ⊑ y) where
   inside u (union a b) (inr h) = inr (inside u b h)
   inside u (intersection a b) h = (inside u a h.0, inside u b h.1)
 
-  pub larger : Larger p x y
+  pub larger : MoreAuthority p x y
   larger = record { members = member p.edge x y more; conditions = meets p.edge x y more; sets = inside }

@@ -8,13 +8,12 @@ pub mod Exact
 pub mod Room
 pub mod Deciding
 pub mod Closes
+pub mod Places
 pub mod Delegate
+pub mod Opens
 pub mod Table
 pub mod Shown
 pub mod Turns
 pub mod Cases
 pub mod Boards
 pub mod Premises
-pub mod Tested
-pub mod Mapped
-pub mod Opens

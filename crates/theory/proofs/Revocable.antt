@@ -1,5 +1,5 @@
 -- Roles that some revoke rule targets.
-use Rattle.std.proofs.Common.{◌≡◌, ℕ, zero, suc, ◌<◌, T, ◌⊎◌, List, [], ◌∷◌, length, get_or, refl, inl, inr, not-suc-le-zero, arith}
+use Rattle.std.proofs.Common.{ℕ, suc, T, ◌⊎◌, List, [], ◌∷◌, inl, inr}
 use Rattle.meaning.specs.Membership.{Role}
 use Rattle.meaning.specs.Lists.{Nth, first, later}
 use Rattle.meaning.specs.Rules.{RevokeRule}

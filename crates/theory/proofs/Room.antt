@@ -1,7 +1,11 @@
 -- Fewer than n numbers leave one below n.
 use Rattle.std.proofs.Common.{◌≡◌, ℕ, zero, suc, ◌<◌, ◌≤◌, Bool, true, false, not, ◌||◌, T, eqb, ◌⊎◌, List, [], ◌∷◌, ◌++◌, length, inl, inr, not-suc-le-zero, arith, eqb→eq, length-append}
-use Rattle.meaning.specs.Sets.{names}
-use Rattle.theory.specs.Hire.{HireAmong}
+use Rattle.meaning.specs.Measures.{users}
+use Rattle.meaning.specs.Membership.{User, State}
+use Rattle.meaning.specs.Rules.{Policy}
+use Rattle.meaning.specs.Sets.{Question, names, Askable}
+use Rattle.theory.specs.Bounds.{WithinMeasures}
+use Rattle.theory.specs.Hire.{HireAmong, IsHire}
 use Rattle.meaning.specs.Lists.{listed}
 use Rattle.meaning.proofs.Tests.{either, or_left, or_right, decide, deny, clash, listed_left, listed_right}
 
@@ -73,15 +77,19 @@ room (suc m) xs l = go (decide (listed xs m)) (room m (without m xs))
         (h, omega arith, deny (listed xs h) (λ t. clash (listed (without m xs) h) (still_listed m h (omega arith) xs t) new))
 
 -- a hire: outside the users with a row, those named and those trusted
-pub hired : HireAmong 65536
-hired p s q rowed trusting all all_trusted fits =
-    let (h, below, new) = room 65536 ((rowed ++ names q) ++ trusting) (omega (arith, length-append (rowed ++ names q) trusting, length-append rowed (names q))) in
-    let outside : T (listed ((rowed ++ names q) ++ trusting) h) → ⊥ = λ t. clash (listed ((rowed ++ names q) ++ trusting) h) t new in (
+pub hired : HireAmong users
+hired p s q row_holders trusted_list all all_trusted fits =
+    let (h, below, new) = room users ((row_holders ++ names q) ++ trusted_list) (omega (arith, length-append (row_holders ++ names q) trusted_list, length-append row_holders (names q))) in
+    let outside : T (listed ((row_holders ++ names q) ++ trusted_list) h) → ⊥ = λ t. clash (listed ((row_holders ++ names q) ++ trusted_list) h) t new in (
       h,
       record {
         a_user = below;
-        untrusted = deny (p.trusted h) (λ t. outside (listed_right (rowed ++ names q) trusting h (all_trusted h t)));
-        no_row = λ i. outside (listed_left (rowed ++ names q) trusting h (listed_left rowed (names q) h (all h i)));
-        not_named = deny (listed (names q) h) (λ t. outside (listed_left (rowed ++ names q) trusting h (listed_right rowed (names q) h t)));
+        untrusted = deny (p.trusted h) (λ t. outside (listed_right (row_holders ++ names q) trusted_list h (all_trusted h t)));
+        no_row = λ i. outside (listed_left (row_holders ++ names q) trusted_list h (listed_left row_holders (names q) h (all h i)));
+        not_named = deny (listed (names q) h) (λ t. outside (listed_left (row_holders ++ names q) trusted_list h (listed_right row_holders (names q) h t)));
       },
     )
+
+-- the users with a row, those named and those trusted are fewer than there are users
+pub on_board : (p : Policy) (s : State) → WithinMeasures p s → (q : Question) → Askable q → (hire : User) × IsHire p s q hire
+on_board p s board q asked = hired p s q board.row_holders board.trusted_list board.all_row_holders board.all_trusted (omega (arith, board.few_rows, board.few_trusted, asked.few_named))

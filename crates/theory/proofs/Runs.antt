@@ -3,9 +3,9 @@ use Rattle.std.proofs.Common.{◌≡◌, ℕ, not, T, ◌⊎◌, List, [], ◌�
 use mathlib.Core.Path.{subst⁻¹, fun_ext}
 use Rattle.meaning.specs.Membership.{State}
 use Rattle.meaning.specs.Rules.{Policy, MayAdd, MayRemove, RevokeRule}
-use Rattle.meaning.specs.Runs.{Change, adds, removes, pair, after, Moves, moves, Permitted, Run, end, Reaches, Always}
+use Rattle.meaning.specs.Runs.{Change, adds, removes, pair, after, Moves, moves, Permitted, Run, end, Always}
 use Rattle.meaning.specs.Regimes.{Revocable, Aatu}
-use Rattle.theory.specs.Reach.{◌⊑◌, ◌⊆◌, revocable, floor, Closed}
+use Rattle.theory.specs.Reach.{◌⊑◌, ◌⊆◌, revocable, least_state, ClosedState, Reaches}
 use Rattle.meaning.proofs.Tests.{either, or_left, or_right, first, second, both, clash, deny, decide, agree, is_it, it_is}
 use Rattle.theory.proofs.Revocable.{gives_revocable}
 use Rattle.theory.proofs.Growing as Growing
@@ -62,7 +62,7 @@ ensure m t a u r k may = go (decide (t u r))
     )
 
 -- where addings grow with the state, no run leaves a closed state above the present one
-module _ (m : Moves) (grows : (t t' : State) (a u r n : ℕ) → t ⊆ t' → m.may_add t a u r n → m.may_add t' a u r n) (c : State) (closed : Closed m c) where
+module _ (m : Moves) (grows : (t t' : State) (a u r n : ℕ) → t ⊆ t' → m.may_add t a u r n → m.may_add t' a u r n) (c : State) (closed : ClosedState m c) where
   under : (t : State) (x : Change) → Permitted m t x → t ⊆ c → after x t ⊆ c
   under t (adds a u r k) h below = add_below t c a u r k below (closed a u r k (grows t c a u r k below h.1))
   under t (removes a u r k) h below = λ v q i. below v q (remove_below t a u r k v q i)
@@ -72,7 +72,7 @@ module _ (m : Moves) (grows : (t t' : State) (a u r n : ℕ) → t ⊆ t' → m.
 
 -- where only what revoke rules target is removed, no run takes from the floor
 module _ (m : Moves) (p : Policy) (removable : (t : State) (a u r n : ℕ) → m.may_remove t a u r n → Revocable p r) (s : State) where
-  pub above_floor : (t : State) (x : Change) → Permitted m t x → floor p s ⊆ t → floor p s ⊆ after x t
+  pub above_floor : (t : State) (x : Change) → Permitted m t x → least_state p s ⊆ t → least_state p s ⊆ after x t
   above_floor t (adds a u r k) h above v q i = add_above t a u r k v q (above v q i)
   above_floor t (removes a u r k) h above v q i = both (t v q) (not (pair u r v q)) (above v q i) (deny (pair u r v q) gone)
     where
@@ -82,12 +82,12 @@ module _ (m : Moves) (p : Policy) (removable : (t : State) (a u r n : ℕ) → m
           let out : T (revocable p.revokes q) = subst⁻¹ (λ (q : ℕ). T (revocable p.revokes q)) (is_it u r v q j).1 (gives_revocable nth r target) in
           clash (revocable p.revokes q) out (second (s v q) (not (revocable p.revokes q)) i)
 
-  pub floored : Always m s (λ t. floor p s ⊆ t)
-  floored run r = keeps m (λ t. floor p s ⊆ t) above_floor s run r (λ u q i. first (s u q) (not (revocable p.revokes q)) i)
+  pub floored : Always m s (λ t. least_state p s ⊆ t)
+  floored run r = keeps m (λ t. least_state p s ⊆ t) above_floor s run r (λ u q i. first (s u q) (not (revocable p.revokes q)) i)
 
 -- with no revoke rule, the floor is the state
-pub whole : (p : Policy) (s : State) → Aatu p → floor p s ≡ s
-whole p s none = fun_ext (λ u. fun_ext (λ r. agree (floor p s u r) (s u r)
+pub whole : (p : Policy) (s : State) → Aatu p → least_state p s ≡ s
+whole p s none = fun_ext (λ u. fun_ext (λ r. agree (least_state p s u r) (s u r)
     (λ h. first (s u r) (not (revocable p.revokes r)) h)
     (λ h. both (s u r) (not (revocable p.revokes r)) h (deny (revocable p.revokes r) (λ t. subst (λ (rules : List RevokeRule). T (revocable rules r)) none t)))))
 
@@ -109,7 +109,7 @@ pub removed_revocable : (p : Policy) (t : State) (a u r n : ℕ) → MayRemove p
 removed_revocable p t a u r n m = (n, m.rule, m.numbered, m.target)
 
 pub between :
-    (p : Policy) (s c : State) → s ⊆ c → Closed (moves p) c → Always (moves p) s (λ t. (floor p s ⊆ t) × (t ⊆ c))
+    (p : Policy) (s c : State) → s ⊆ c → ClosedState (moves p) c → Always (moves p) s (λ t. (least_state p s ⊆ t) × (t ⊆ c))
 between p s c above closed run r = (
   floored (moves p) p (removed_revocable p) s run r,
   enclosed (moves p) (λ t t' a u q n more. still p t t' a u q n (more a) (more u)) c closed s above run r,

@@ -1,28 +1,31 @@
 -- A run that shows a verdict, cut at the first state that does.
-use Rattle.std.proofs.Common.{◌≡◌, ℕ, zero, suc, ◌<◌, ◌≤◌, T, ◌⊎◌, List, [], ◌∷◌, length, take, inl, inr, not-suc-le-zero, arith}
+use Rattle.std.proofs.Common.{◌≡◌, ℕ, zero, suc, ◌<◌, ◌≤◌, T, ◌⊎◌, List, [], ◌∷◌, length, take, refl, inl, inr, not-suc-le-zero, arith}
 use mathlib.Core.Logic.{⊎_map}
 use mathlib.Core.Path.{subst⁻¹}
+use Rattle.steps.specs.Steps.{Facts, Trace}
+use Rattle.meaning.specs.Measures.{list_places}
 use Rattle.meaning.specs.Lists.{listed}
-use Rattle.meaning.specs.Membership.{User, State}
+use Rattle.meaning.specs.Membership.{User, Role, State}
 use Rattle.meaning.specs.Rules.{Policy}
 use Rattle.meaning.specs.Sets.{Question, Holds, Static, SemiStatic, names, Askable}
-use Rattle.meaning.specs.Runs.{Change, adds, removes, after, Moves, moves, Run, end, Reaches, Always}
-use Rattle.meaning.specs.Regimes.{Regular}
-use Rattle.theory.specs.Reach.{floor}
+use Rattle.meaning.specs.Runs.{Change, adds, removes, after, Moves, moves, Run, end, Always}
+use Rattle.meaning.specs.Regimes.{ObeysRegime}
+use Rattle.theory.specs.Reach.{least_state, Reaches}
 use Rattle.meaning.specs.Rows.{Holder}
-use Rattle.theory.specs.Bounds.{Measured}
-use Rattle.theory.specs.Hire.{Tracking, Looked, Closing}
+use Rattle.theory.specs.Bounds.{WithinMeasures}
+use Rattle.theory.specs.Hire.{Tracking, TrackedOrHire, Closing}
 use Rattle.meaning.specs.Witnesses.{OnlyAdds, OnlyRemoves, Each, FirstAt, NamesFew, Shows}
-use Rattle.theory.specs.Removing.{Falls}
+use Rattle.theory.specs.Removing.{RunToLeastState}
 use Rattle.theory.specs.Laws.{Delegable}
-use Rattle.theory.specs.Delegation.{delegation, IsRun}
+use Rattle.theory.specs.Delegation.{user_of, said, rule_number, slot_of, role_of, delegation, Shut, InSlots, IsRun}
 use Rattle.theory.specs.Premises.{Prepared, Closable}
-use Rattle.theory.specs.Verdicts.{Covers, HoldsHere, Shown}
+use Rattle.theory.specs.Verdicts.{TracksNamedUsers, HoldsAmongTracked, HasVerdict}
 use Rattle.theory.proofs.Standing.{delegable}
 use Rattle.theory.proofs.Floor.{lowest}
 use Rattle.theory.proofs.Exact.{Answers, answers, floor_widely, static_widely}
-use Rattle.theory.proofs.Deciding.{holds?, down, tells_senior}
-use Rattle.theory.proofs.Delegate.{lawful, recorded, is_run}
+use Rattle.theory.proofs.Deciding.{holds?}
+use Rattle.theory.proofs.Delegate.{lawful, is_run}
+use Rattle.theory.proofs.Opens.{open?}
 use Rattle.theory.proofs.Closes.{closes, trace_short}
 use Rattle.theory.proofs.Table.{prepared}
 
@@ -73,8 +76,8 @@ cut P dec s (x ∷ xs) h = go (dec s) (cut P dec (after x s) xs h)
         before (suc n) l i = w.not_before n (omega arith) i
 
 -- from the laws, a closing and a way down to the floor, whoever may add and remove
-module _ {p : Policy} {s : State} (k : Tracking p s) (q : Question) (covered : Covers k q) (true? : (t : State) → Holds p t q ⊎ (Holds p t q → ⊥))
-    (m : Moves) (law : Delegable m k) (n : ℕ) (fallen : (run : List Change) × Falls m p s n run)
+module _ {p : Policy} {s : State} (k : Tracking p s) (q : Question) (covered : TracksNamedUsers k q) (true? : (t : State) → Holds p t q ⊎ (Holds p t q → ⊥))
+    (m : Moves) (law : Delegable m k) (n : ℕ) (fallen : (run : List Change) × RunToLeastState m p s n run)
     (run : List Change) (closing : Closing m k run) (few : NamesFew s q run) (short : length run ≤ n) where
   abbrev Sought : (State → Type 0) → Type 0
   Sought P = (part : List Change) × Shows m s q P n part
@@ -103,7 +106,7 @@ module _ {p : Policy} {s : State} (k : Tracking p s) (q : Question) (covered : C
   by_adding : (P : State → Type 0) → ((t : State) → P t ⊎ (P t → ⊥)) → P top → Sought P
   by_adding P dec h = shows P dec run closing.lawful (inl closing.adding) few short h
 
-  by_removing : (P : State → Type 0) → ((t : State) → P t ⊎ (P t → ⊥)) → P (floor p s) → Sought P
+  by_removing : (P : State → Type 0) → ((t : State) → P t ⊎ (P t → ⊥)) → P (least_state p s) → Sought P
   by_removing P dec h =
       shows P dec fallen.0 fallen.1.lawful (inr fallen.1.removing)
       (0, each_more (Holder s) (λ u. Holder s u ⊎ (T (listed (names q) u) ⊎ (u ≡ 0))) (λ u i. inl i) fallen.0 fallen.1.rowed)
@@ -119,11 +122,11 @@ module _ {p : Policy} {s : State} (k : Tracking p s) (q : Question) (covered : C
   false? t = elim (true? t) [ inl h ↦ inr (λ f. f h) | inr h ↦ inl h ]
 
   -- where the question is true of all, it is true of those that are looked at
-  here : (t : State) → True t → HoldsHere k t q
+  here : (t : State) → True t → HoldsAmongTracked k t q
   here t all u u-user look i = all u u-user i
 
   can : Static q.larger ⊎ Static q.smaller → Sought True ⊎ (Reaches m s True → ⊥)
-  can (inl z) = elim (true? (floor p s)) [
+  can (inl z) = elim (true? (least_state p s)) [
     | inl h ↦ inl (by_removing True true? h)
     | inr f ↦ inr (λ possible. f (floor_widely k q covered ((verdicts.possible_larger z).0 possible)))
   ]
@@ -137,27 +140,40 @@ module _ {p : Policy} {s : State} (k : Tracking p s) (q : Question) (covered : C
     | inl h ↦ inr ((verdicts.necessary_larger z).1 (here top h))
     | inr f ↦ inl (by_adding False false? f)
   ]
-  must (inr z) = elim (true? (floor p s)) [
-    | inl h ↦ inr ((verdicts.necessary_smaller z).1 (here (floor p s) h))
+  must (inr z) = elim (true? (least_state p s)) [
+    | inl h ↦ inr ((verdicts.necessary_smaller z).1 (here (least_state p s) h))
     | inr f ↦ inl (by_removing False false? f)
   ]
 
-  pub shown_by : SemiStatic q → Shown m p s q n
+  pub shown_by : SemiStatic q → HasVerdict m p s q n
   shown_by z = record { possible = can z; necessary = must z }
 
+-- what the steps of delegation make from a start can be closed
+pub closed_from : (p : Policy) (s : State) → WithinMeasures p s → (us : List User) (start : Facts)
+    → (run : List Change) × (f : Facts) × Trace (delegation (λ c. c) p us) start run f × Shut (delegation (λ c. c) p us) f
+closed_from p s board us start =
+    let c = closes (delegation (λ c. c) p us) (lawful (λ c. c) p us) start
+    (λ n f l (below, (actor, may)). (adds actor (user_of us (slot_of n)) (role_of n) (rule_number n), (actor, refl, may))) (open? p s board (λ c. c) us) in
+    (c.run, c.facts, c.trace, c.shut)
+
+-- a closing among these users, who are the tracked ones and the hire
+pub closing_of : (p : Policy) (s : State) → WithinMeasures p s → (k : Tracking p s) (us : List User) → InSlots k us
+    → (start : Facts) → ((u : User) (r : Role) → said us start u r ≡ s u r) → (run : List Change) × Closing (moves p) k run
+closing_of p s board k us z start starts =
+    let (run, f, w, done) = closed_from p s board us start in
+    (run, (is_run board k us z start starts run f w done).closing)
+
 -- every board within its measures has a closing for every question within its own
-pub closable : (p : Policy) (s : State) → Measured p s → (q : Question) → Askable q → Closable p s q 8512
+pub closable : (p : Policy) (s : State) → WithinMeasures p s → (q : Question) → Askable q → Closable p s q list_places
 closable p s board q ask =
     let start = prepared p s board q ask in
-    let k = start.looks_at in
-    let z = start.table in
-    let t = tells_senior p s board in
-    let c = closes (delegation k z (down p)) (lawful p s k z (down p)) start.present (recorded k z (down p) t) in
-    record { prepared = start; down = down p; tells = t; run = c.run; facts = c.facts; trace = c.trace; shut = c.shut; short = trace_short (delegation k z (down p)) (lawful p s k z (down p)) start.present c.trace }
+    let us = start.users in
+    let (run, f, w, done) = closed_from p s board us start.present in
+    record { prepared = start; run = run; facts = f; trace = w; shut = done; short = trace_short (delegation (λ c. c) p us) (lawful (λ c. c) p us) start.present w }
 
 -- under the rules of a policy
-module _ (p : Policy) (s : State) (board : Measured p s) (reg : Regular p s) (q : Question) (ask : Askable q) where
-  ready : Closable p s q 8512
+module _ (p : Policy) (s : State) (board : WithinMeasures p s) (reg : ObeysRegime p s) (q : Question) (ask : Askable q) where
+  ready : Closable p s q list_places
   ready = closable p s board q ask
 
   abbrev start : Prepared p s q
@@ -166,23 +182,23 @@ module _ (p : Policy) (s : State) (board : Measured p s) (reg : Regular p s) (q 
   abbrev looks : Tracking p s
   looks = start.looks_at
 
-  closing_run : IsRun looks start.table ready.run ready.facts 8512
-  closing_run = is_run looks start.table ready.down ready.tells board start.present start.says_present ready.run ready.facts ready.trace ready.shut
+  closing_run : IsRun looks start.users ready.run ready.facts list_places
+  closing_run = is_run board looks start.users start.slotted start.present start.says_present ready.run ready.facts ready.trace ready.shut
 
   -- it names users with a row, users in the question and the hire
   names_few : NamesFew s q ready.run
-  names_few = (looks.hire, each_more (Looked looks) (λ u. Holder s u ⊎ (T (listed (names q) u) ⊎ (u ≡ looks.hire))) who ready.run closing_run.looked)
+  names_few = (looks.hire, each_more (TrackedOrHire looks) (λ u. Holder s u ⊎ (T (listed (names q) u) ⊎ (u ≡ looks.hire))) who ready.run closing_run.looked)
     where
-      who : (u : User) → Looked looks u → Holder s u ⊎ (T (listed (names q) u) ⊎ (u ≡ looks.hire))
+      who : (u : User) → TrackedOrHire looks u → Holder s u ⊎ (T (listed (names q) u) ⊎ (u ≡ looks.hire))
       who u (inl t) = ⊎_map (λ h. h) (λ h. inl h) (start.few_tracked u t)
       who u (inr e) = inr (inr e)
 
-  fallen_far : (run : List Change) × Falls (moves p) p s 8512 run
+  fallen_far : (run : List Change) × RunToLeastState (moves p) p s list_places run
   fallen_far =
       let (run, f) = lowest p s board reg in
       let l = f.short in
       (run, record { lawful = f.lawful; removing = f.removing; rowed = f.rowed; short = omega arith; ends = f.ends })
 
-  pub shown : Shown (moves p) p s q 8512
-  shown = shown_by looks q start.covered (λ t. holds? p s board t q) (moves p) (delegable p s looks) 8512 fallen_far
+  pub shown : HasVerdict (moves p) p s q list_places
+  shown = shown_by looks q start.covered (λ t. holds? p s board t q) (moves p) (delegable p s looks) list_places fallen_far
       ready.run closing_run.closing names_few ready.short ask.is_semi_static

@@ -5,9 +5,9 @@ use Rattle.std.proofs.lemmas.Bool.{cases_eq}
 use Rattle.meaning.specs.Measures.{users}
 use Rattle.meaning.specs.Membership.{User, IsUser, State}
 use Rattle.meaning.specs.Rules.{Policy}
-use Rattle.meaning.specs.Runs.{Change, adds, removes, pair, after, Moves, moves, Permitted, Run, end, Reaches}
-use Rattle.theory.specs.Reach.{◌⊑◌, ◌⊆◌, Closed}
-use Rattle.theory.specs.Hire.{Tracking, stand, spread, Looked, Closing, ForEverybody}
+use Rattle.meaning.specs.Runs.{Change, adds, removes, pair, after, Moves, moves, Permitted, Run, end}
+use Rattle.theory.specs.Reach.{◌⊑◌, ◌⊆◌, ClosedState, Reaches}
+use Rattle.theory.specs.Hire.{Tracking, representative, by_representatives, TrackedOrHire, Closing, IsGreatestState}
 use Rattle.meaning.specs.Witnesses.{OnlyAdds}
 use Rattle.theory.specs.Laws.{Delegable}
 use Rattle.meaning.proofs.Tests.{either, decide, is_it}
@@ -29,22 +29,22 @@ stand_new true u h t = absurd t
 stand_new false u h t = refl
 
 module _ {p : Policy} {s : State} (k : Tracking p s) where
-  pub old : (u : User) → T (k.tracked u) → stand k u ≡ u
+  pub old : (u : User) → T (k.tracked u) → representative k u ≡ u
   old u t = stand_old (k.tracked u) u k.hire t
 
-  pub new : (u : User) → T (not (k.tracked u)) → stand k u ≡ k.hire
+  pub new : (u : User) → T (not (k.tracked u)) → representative k u ≡ k.hire
   new u t = stand_new (k.tracked u) u k.hire t
 
   -- what holds of a tracked user, and of the hire where u is not tracked, holds of who stands for u
-  pub by_stand : (P : User → Type 0) (u : User) → (T (k.tracked u) → P u) → (T (not (k.tracked u)) → P k.hire) → P (stand k u)
+  pub by_stand : (P : User → Type 0) (u : User) → (T (k.tracked u) → P u) → (T (not (k.tracked u)) → P k.hire) → P (representative k u)
   by_stand P u f g = go (decide (k.tracked u))
     where
-      go : T (k.tracked u) ⊎ T (not (k.tracked u)) → P (stand k u)
+      go : T (k.tracked u) ⊎ T (not (k.tracked u)) → P (representative k u)
       go (inl t) = subst⁻¹ P (old u t) (f t)
       go (inr t) = subst⁻¹ P (new u t) (g t)
 
-  looked : (u : User) → Looked k (stand k u)
-  looked u = by_stand (Looked k) u (λ t. inl t) (λ t. inr refl)
+  looked : (u : User) → TrackedOrHire k (representative k u)
+  looked u = by_stand (TrackedOrHire k) u (λ t. inl t) (λ t. inr refl)
 
   module _ (m : Moves) (law : Delegable m k) where
     -- Along a run of addings from s, a state above s can be taken to one above the run's end, in which v has all that the hire has at the run's end.
@@ -76,7 +76,7 @@ module _ {p : Policy} {s : State} (k : Tracking p s) where
           two : (t₁ : State) → One t₁ → (u ≡ h) ⊎ (u ≡ h → ⊥) → Reaches m t₁ Two
           two t₁ o (inl e) =
               onward m (λ t₂. (t₁ ⊆ t₂) × T (t₂ v r)) Two t₁
-              (ensure m t₁ a v r n (law.others_get s t₁ a u v r n (subst⁻¹ (λ (w : User). T (not (k.tracked w))) e k.hire_new) v-new v-user
+              (ensure m t₁ a v r n (law.others_get s t₁ a u v r n (subst⁻¹ (λ (w : User). T (not (k.tracked w))) e k.hire_not_tracked) v-new v-user
               (λ q i. o.1 a q (ahead.0 a q i)) (λ q i. o.1 v q (ahead.1 q (subst (λ (w : User). T (s w q)) e i))) may.1))
               (λ t₂ g. stay m Two t₂ ((λ w q i. g.0 w q (o.0 w q i)), λ q i. row t₂ g q (either (s h q) (pair u r h q) i)))
             where
@@ -101,44 +101,44 @@ module _ {p : Policy} {s : State} (k : Tracking p s) where
       abbrev top : State
       top = end s run
 
-      above : s ⊆ spread k top
-      above u r h = by_stand (λ v. T (top v r)) u (λ t. grown s run c.adding u r h) (λ t. absurd (k.others_new u r t h))
+      above : s ⊆ by_representatives k top
+      above u r h = by_stand (λ v. T (top v r)) u (λ t. grown s run c.adding u r h) (λ t. absurd (k.others_hold_nothing u r t h))
 
       -- users that are not tracked have the hire's row
-      same : (u : User) → T (not (k.tracked u)) → spread k top u ⊑ spread k top k.hire
-      same u t q i = subst⁻¹ (λ (w : User). T (top w q)) (new k.hire k.hire_new) (subst (λ (w : User). T (top w q)) (new u t) i)
+      same : (u : User) → T (not (k.tracked u)) → by_representatives k top u ⊑ by_representatives k top k.hire
+      same u t q i = subst⁻¹ (λ (w : User). T (top w q)) (new k.hire k.hire_not_tracked) (subst (λ (w : User). T (top w q)) (new u t) i)
 
       -- who may add something to whom after the closing, may do it as those who stand for them
-      acts : (a u r n : ℕ) → m.may_add (spread k top) a u r n → m.may_add (spread k top) (stand k a) u r n
-      acts a u r n may = by_stand (λ b. m.may_add (spread k top) b u r n) a (λ t. may)
-          (λ t. law.hire_acts (spread k top) (spread k top) a u r n t (same a t) (λ q i. i) may)
+      acts : (a u r n : ℕ) → m.may_add (by_representatives k top) a u r n → m.may_add (by_representatives k top) (representative k a) u r n
+      acts a u r n may = by_stand (λ b. m.may_add (by_representatives k top) b u r n) a (λ t. may)
+          (λ t. law.hire_acts (by_representatives k top) (by_representatives k top) a u r n t (same a t) (λ q i. i) may)
 
-      gets : (a u r n : ℕ) → m.may_add (spread k top) a u r n → m.may_add (spread k top) a (stand k u) r n
-      gets a u r n may = by_stand (λ b. m.may_add (spread k top) a b r n) u (λ t. may)
-          (λ t. law.others_get (spread k top) (spread k top) a u k.hire r n t k.hire_new k.hire_user (λ q i. i) (same u t) may)
+      gets : (a u r n : ℕ) → m.may_add (by_representatives k top) a u r n → m.may_add (by_representatives k top) a (representative k u) r n
+      gets a u r n may = by_stand (λ b. m.may_add (by_representatives k top) a b r n) u (λ t. may)
+          (λ t. law.others_get (by_representatives k top) (by_representatives k top) a u k.hire r n t k.hire_not_tracked k.hire_is_user (λ q i. i) (same u t) may)
 
       -- who stands for somebody stands for itself
-      self : (u : User) → stand k (stand k u) ≡ stand k u
-      self u = by_stand (λ v. stand k v ≡ v) u (λ t. old u t) (λ t. new k.hire k.hire_new)
+      self : (u : User) → representative k (representative k u) ≡ representative k u
+      self u = by_stand (λ v. representative k v ≡ v) u (λ t. old u t) (λ t. new k.hire k.hire_not_tracked)
 
-      here : (u : User) → spread k top (stand k u) ⊑ top (stand k u)
+      here : (u : User) → by_representatives k top (representative k u) ⊑ top (representative k u)
       here u q i = subst (λ (w : User). T (top w q)) (self u) i
 
-      closed : Closed m (spread k top)
-      closed a u r n may = c.closed (stand k a) (stand k u) r n (looked a) (looked u)
-          (law.grows (spread k top) top (stand k a) (stand k u) r n (here a) (here u) (gets (stand k a) u r n (acts a u r n may)))
+      closed : ClosedState m (by_representatives k top)
+      closed a u r n may = c.closed (representative k a) (representative k u) r n (looked a) (looked u)
+          (law.grows (by_representatives k top) top (representative k a) (representative k u) r n (here a) (here u) (gets (representative k a) u r n (acts a u r n may)))
 
-      each : (u : User) → IsUser u → Reaches m s (λ t. spread k top u ⊑ t u)
+      each : (u : User) → IsUser u → Reaches m s (λ t. by_representatives k top u ⊑ t u)
       each u u-user = go (decide (k.tracked u))
         where
-          go : T (k.tracked u) ⊎ T (not (k.tracked u)) → Reaches m s (λ t. spread k top u ⊑ t u)
+          go : T (k.tracked u) ⊎ T (not (k.tracked u)) → Reaches m s (λ t. by_representatives k top u ⊑ t u)
           go (inl t) = (run, c.lawful, λ r h. subst (λ (w : User). T (top w r)) (old u t) h)
           go (inr t) =
-              onward m (λ t'. (top ⊆ t') × (top k.hire ⊑ t' u)) (λ t'. spread k top u ⊑ t' u) s
-              (replay u u-user t run s s c.adding c.lawful ((λ v r h. h), λ r h. absurd (k.others_new k.hire r k.hire_new h)))
-              (λ t' a. stay m (λ t'. spread k top u ⊑ t' u) t' (λ r h. a.1 r (subst (λ (w : User). T (top w r)) (new u t) h)))
+              onward m (λ t'. (top ⊆ t') × (top k.hire ⊑ t' u)) (λ t'. by_representatives k top u ⊑ t' u) s
+              (replay u u-user t run s s c.adding c.lawful ((λ v r h. h), λ r h. absurd (k.others_hold_nothing k.hire r k.hire_not_tracked h)))
+              (λ t' a. stay m (λ t'. by_representatives k top u ⊑ t' u) t' (λ r h. a.1 r (subst (λ (w : User). T (top w r)) (new u t) h)))
 
-      pub for_everybody : ForEverybody m k top users
+      pub for_everybody : IsGreatestState m k top users
       for_everybody = record { above = above; closed = closed; each = each }
 
 -- the rules of a policy keep the laws
@@ -146,9 +146,9 @@ pub delegable : (p : Policy) (s : State) (k : Tracking p s) → Delegable (moves
 delegable p s k = record {
   grows = still p;
   hire_acts = λ t t' a u r n _ actor user may. record {
-    an_actor = k.hire_user;
+    an_actor = k.hire_is_user;
     a_user = may.a_user;
-    untrusted = k.hire_free;
+    untrusted = k.hire_not_trusted;
     rule = may.rule;
     numbered = may.numbered;
     target = may.target;

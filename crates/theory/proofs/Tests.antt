@@ -1,11 +1,7 @@
 -- A test that some number passes.
-use Rattle.std.proofs.Common.{◌≡◌, ℕ, zero, suc, ◌<◌, Bool, true, false, not, ◌&&◌, ◌||◌, T, eqb, ◌⊎◌, List, [], ◌∷◌, ◌++◌, refl, subst, inl, inr, not-suc-le-zero, arith, eqb→eq}
-use mathlib.Core.Path.{subst⁻¹}
+use Rattle.std.proofs.Common.{◌≡◌, ℕ, zero, suc, ◌<◌, Bool, T, ◌⊎◌, subst, inl, inr, not-suc-le-zero, arith}
 use Rattle.std.proofs.lemmas.Bool.{cases_eq}
-use lib.Dec.{eqb_refl}
 use Rattle.theory.specs.Tests.{some}
-use Rattle.meaning.specs.Lists.{listed}
-use Rattle.meaning.specs.Runs.{pair}
 use Rattle.meaning.proofs.Tests.{either, or_left, or_right}
 
 pub some_at : (n : ℕ) (f : ℕ → Bool) (k : ℕ) → k < n → T (f k) → T (some n f)

@@ -2,13 +2,14 @@
 use Rattle.std.proofs.Common.{◌≡◌, ℕ, ◌<◌, ◌≤◌, not, T, eqb, ◌⊎◌, List, [], ◌∷◌, ◌++◌, length, subst, inl, inr, ⊎_elim, arith, eqb→eq, length-append}
 use mathlib.Core.Path.{subst⁻¹}
 use lib.Dec.{eqb_refl}
+use Rattle.meaning.specs.Measures.{rows}
 use Rattle.meaning.specs.Lists.{listed, Nth, Apart}
 use Rattle.meaning.specs.Membership.{User, State}
 use Rattle.meaning.specs.Rules.{Policy, RevokeRule}
 use Rattle.meaning.specs.Runs.{Change, adds, removes, pair, after, moves, Run}
-use Rattle.meaning.specs.Regimes.{Aatu, Aar, Regular}
+use Rattle.meaning.specs.Regimes.{Aatu, Aar, ObeysRegime}
 use Rattle.meaning.specs.Rows.{Holder, Holders, FreeRow, AddsTo, FreeRows}
-use Rattle.theory.specs.Granting.{GrantedInTurn}
+use Rattle.theory.specs.Granting.{CallsGranted}
 use Rattle.meaning.proofs.Tests.{either, or_left, or_right, first, clash, deny, is_it, listed_left, listed_right}
 use Rattle.theory.proofs.Room.{without, shorter, still_listed}
 use Rattle.theory.proofs.Floor.{by_regime}
@@ -47,7 +48,7 @@ none_apart s u (x ∷ xs) n (h, k) = deny (listed (x ∷ xs) u) (λ t. ⊎_elim
     (either (eqb u x) (listed xs u) t))
 
 -- where a list of no more users than there are rows has all holders and a user without a row, there is a free row
-pub free_row : (s : State) (u : ℕ) (ys : List ℕ) → ((v : ℕ) → Holder s v → T (listed ys v)) → T (listed ys u) → length ys ≤ 100 → (Holder s u → ⊥) → FreeRow s
+pub free_row : (s : State) (u : ℕ) (ys : List ℕ) → ((v : ℕ) → Holder s v → T (listed ys v)) → T (listed ys u) → length ys ≤ rows → (Holder s u → ⊥) → FreeRow s
 free_row s u ys all here le none users apart hold =
     let n : length (u ∷ users) ≤ length ys = few (u ∷ users) ys (none_apart s u users none hold, apart) (here, all_listed s users ys all hold) in
     omega arith
@@ -68,7 +69,7 @@ removes_listed s a u r k ys all v (q, t) = all v (q, first (s v q) (not (pair u 
 abbrev ApartRegimes : Policy → Type 0
 ApartRegimes p = (k : ℕ) (rule : RevokeRule) → Nth k rule p.revokes → (u : User) → T (not (p.trusted u))
 
-pub regimes_apart : (p : Policy) (s : State) → Regular p s → ApartRegimes p
+pub regimes_apart : (p : Policy) (s : State) → ObeysRegime p s → ApartRegimes p
 regimes_apart p s reg k rule nth u = go (by_regime p s reg)
   where
     no_rule_lem : {k : ℕ} {rule : RevokeRule} → Nth k rule [] → ⊥
@@ -79,8 +80,8 @@ regimes_apart p s reg k rule nth u = go (by_regime p s reg)
     go (inr aar) = aar.nobody_trusted u
 
 turns : (p : Policy) → ApartRegimes p → (s : State) (run : List Change) → Run (moves p) s run
-    → (ys : List ℕ) → ((v : ℕ) → Holder s v → T (listed ys v)) → AddsTo (λ u. T (listed ys u)) run → length ys ≤ 100
-    → GrantedInTurn p s run
+    → (ys : List ℕ) → ((v : ℕ) → Holder s v → T (listed ys v)) → AddsTo (λ u. T (listed ys u)) run → length ys ≤ rows
+    → CallsGranted p s run
 turns p reg s [] w ys all to le = tt
 turns p reg s (adds a u r k ∷ xs) (h, w) ys all (here, to) le = (
   record { untrusted = h.1.untrusted; new = h.0; permits = (k, h.1); a_row = free_row s u ys all here le },
@@ -100,7 +101,7 @@ listed_to s (adds a u r k ∷ xs) held new all (h, to) = (
 )
 listed_to s (removes a u r k ∷ xs) held new all to = listed_to s xs held new all to
 
-pub run_granted : (p : Policy) (s : State) → Regular p s → (run : List Change) → Run (moves p) s run → FreeRows s run 100 → GrantedInTurn p s run
+pub run_granted : (p : Policy) (s : State) → ObeysRegime p s → (run : List Change) → Run (moves p) s run → FreeRows s run rows → CallsGranted p s run
 run_granted p s reg run w f =
     turns p (regimes_apart p s reg) s run w (f.held ++ f.new) (λ v h. listed_left f.held f.new v (f.all_held v h))
     (listed_to s run f.held f.new f.all_held f.others_new) (omega (arith, length-append f.held f.new, f.room))

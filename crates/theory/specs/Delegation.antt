@@ -1,59 +1,31 @@
--- Delegation as a step system over the tracked users and the hire.
-use Rattle.std.specs.Prelude.{◌≡◌, ℕ, suc, ◌+◌, ◌*◌, ◌/◌, ◌%◌, ◌<◌, ◌≤◌, Bool, true, false, not, ◌&&◌, ◌||◌, T, ◌↔◌, List, length, ◌==◌, nat_lt, slice_index_or}
+-- Delegation as a step system: what some users can make of a state by adding roles among themselves.
+use Rattle.std.specs.Prelude.{◌≡◌, ℕ, suc, ◌+◌, ◌*◌, ◌/◌, ◌%◌, ◌<◌, ◌≤◌, true, ◌&&◌, T, ◌↔◌, List, length, ◌==◌, nat_lt, slice_index}
 use Rattle.steps.specs.Steps.{Facts, System, Lawful, Trace}
 use Rattle.meaning.specs.Measures.{roles, tracked_users, list_places}
 use Rattle.theory.specs.Tests.{some}
-use Rattle.meaning.specs.Membership.{User, Role, IsUser, Row, State, Senior}
-use Rattle.meaning.specs.Rules.{Condition, everybody, in_role, both, either, AssignRule, Policy, MayAdd}
-use Rattle.meaning.specs.Runs.{Change, adds, moves, end}
-use Rattle.theory.specs.Bounds.{Measured}
-use Rattle.theory.specs.Hire.{Tracking, Looked, Closing}
-use Rattle.meaning.specs.Witnesses.{Each}
+use Rattle.meaning.specs.Lists.{listed, Apart}
+use Rattle.meaning.specs.Membership.{User, Role, Row, State}
+use Rattle.meaning.specs.Rules.{Policy, MayAdd}
+use Rattle.meaning.specs.Runs.{Change, adds, moves, Run, end}
+use Rattle.meaning.specs.Witnesses.{OnlyAdds, Each}
+use Rattle.theory.specs.Bounds.{WithinMeasures}
+use Rattle.theory.specs.Hire.{Tracking, TrackedOrHire, Closing}
 
--- a test of seniority, right for every role in range
-abbrev pub TellsSenior : Policy → (Role → Role → Bool) → Type 0
-TellsSenior p down = (q r : Role) → q < roles → T (down q r) ↔ Senior p.edge q r
-
--- membership and conditions, by such a test
-abbrev pub member_test : (Role → Role → Bool) → Row → Role → Bool
-member_test down row r = some roles (λ q. row q && down q r)
-
-abbrev pub meets_test : (Role → Role → Bool) → Row → Condition → Bool
-meets_test down row everybody = true
-meets_test down row (in_role r) = member_test down row r
-meets_test down row (both c d) = meets_test down row c && meets_test down row d
-meets_test down row (either c d) = meets_test down row c || meets_test down row d
-
--- a table with one slot for each tracked user and one for the hire
-pub record Slots {p : Policy} {s : State} (k : Tracking p s) : Type 0 where
-  pub used : ℕ
-  pub user : ℕ → User
-  pub slot : User → ℕ
-  pub few : used ≤ tracked_users
-  pub filled : (i : ℕ) → i < used → IsUser (user i) × Looked k (user i) × (slot (user i) ≡ i)
-  pub found : (u : User) → Looked k u → (slot u < used) × (user (slot u) ≡ u)
+-- the users that are looked at are listed; a user's place in the list, counted from 0, is that user's slot
+abbrev pub user_of : List User → ℕ → User
+user_of users slot = slice_index users slot
 
 -- the fact `roles * i + r` says that the user of slot i has the role r
-abbrev pub row_at : Facts → ℕ → Row
-row_at f i = λ r. nat_lt r roles && f (roles * i + r)
+abbrev pub said_row : Facts → ℕ → Row
+said_row f i = λ r. nat_lt r roles && f (roles * i + r)
 
--- the user is tracked, or is the hire
-abbrev pub is_looked : {p : Policy} {s : State} → Tracking p s → User → Bool
-is_looked k u = k.tracked u || u == k.hire
+-- the state that facts say: a user has what the facts say of that user's slot, and whoever is not listed has nothing
+abbrev pub said : List User → Facts → State
+said users f = λ u r. some (length users) (λ i. user_of users i == u && said_row f i r)
 
--- the state that facts say
-abbrev pub state_of : {p : Policy} {s : State} (k : Tracking p s) → Slots k → Facts → State
-state_of k z f = λ u r. is_looked k u && row_at f (z.slot u) r
-
--- the step `list_places * n + (roles * i + r)` gives the role r to the user of slot i by the assign rule at place n, which has the number n + 1
-abbrev pub no_rule : AssignRule
-no_rule = record { admin = 0; condition = everybody; targets = λ r. false }
-
-abbrev pub rule_of : Policy → ℕ → AssignRule
-rule_of p step = slice_index_or p.assigns (step / list_places) no_rule
-
-abbrev pub number_of : ℕ → ℕ
-number_of step = suc (step / list_places)
+-- the step `list_places * n + (roles * i + r)` gives the role r to the user of slot i by the assign rule of number n + 1
+abbrev pub rule_number : ℕ → ℕ
+rule_number step = suc (step / list_places)
 
 abbrev pub slot_of : ℕ → ℕ
 slot_of step = step % list_places / roles
@@ -61,24 +33,18 @@ slot_of step = step % list_places / roles
 abbrev pub role_of : ℕ → Role
 role_of step = step % roles
 
--- the user of some slot is not trusted and has a row that makes a member of the role
-abbrev pub some_actor : {p : Policy} {s : State} (k : Tracking p s) → Slots k → (Role → Role → Bool) → Facts → Role → Bool
-some_actor {p} k z down f admin = some z.used (λ j. not (p.trusted (z.user j)) && member_test down (row_at f j) admin)
+-- in the state that the facts say, this listed user may make the step's adding, whether or not the role is assigned already
+abbrev pub MayGive : Policy → List User → Facts → (step : ℕ) → (actor : User) → Type 0
+MayGive p users f step actor = T (listed users actor) × MayAdd p (said users f) actor (user_of users (slot_of step)) (role_of step) (rule_number step)
 
--- a step is open when some actor here may make it, whether or not the role is assigned already; its record is the adding, by an actor who may make it
-abbrev pub delegation : {p : Policy} {s : State} (k : Tracking p s) → Slots k → (Role → Role → Bool) → System Change
-delegation {p} k z down = record {
+-- a step is open when its slot is some user's, and one of the listed users may make its adding; what is recorded of it, as a change, is that adding by one of them who may make it
+abbrev pub delegation : {Record : Type 0} → (Record → Change) → Policy → List User → System Record
+delegation change_of p users = record {
   facts = list_places;
   steps = list_places * length p.assigns;
-  makes = λ n. n % list_places;
-  opens = λ n f.
-      nat_lt (slot_of n) z.used
-      && ((rule_of p n).targets (role_of n)
-      && (some_actor k z down f (rule_of p n).admin
-      && meets_test down (row_at f (slot_of n)) (rule_of p n).condition));
-  records = λ n f c. (j : ℕ) × (j < z.used)
-      × (c ≡ adds (z.user j) (z.user (slot_of n)) (role_of n) (number_of n))
-      × MayAdd p (state_of k z f) (z.user j) (z.user (slot_of n)) (role_of n) (number_of n);
+  makes = λ step. step % list_places;
+  opens = λ step f. (slot_of step < length users) × ((actor : User) × MayGive p users f step actor);
+  records = λ step f x. (actor : User) × (change_of x ≡ adds actor (user_of users (slot_of step)) (role_of step) (rule_number step)) × MayGive p users f step actor;
 }
 
 -- it keeps the law of step systems, and its facts are numbered below n
@@ -87,23 +53,36 @@ pub record LawfulBelow (y : System Change) (n : ℕ) : Type 0 where
   pub below : (step : ℕ) → step < y.steps → y.makes step < n
 
 abbrev pub DelegationKeepsTheLaw : ℕ → Type 0
-DelegationKeepsTheLaw n = (p : Policy) (s : State) (k : Tracking p s) (z : Slots k) (down : Role → Role → Bool) → LawfulBelow (delegation k z down) n
+DelegationKeepsTheLaw n = (p : Policy) (users : List User) → LawfulBelow (delegation (λ c. c) p users) n
 
 -- no open step makes a new fact
-abbrev pub Shut : System Change → Facts → Type 0
-Shut y f = (n : ℕ) → n < y.steps → y.opens n f ≡ true → f (y.makes n) ≡ true
+abbrev pub Shut : {Record : Type 0} → System Record → Facts → Type 0
+Shut y f = (step : ℕ) → step < y.steps → y.opens step f → f (y.makes step) ≡ true
+
+-- a run of addings from s to t by and to listed users, at whose end none of them may add anything more to one of them
+pub record RunAmong (p : Policy) (users : List User) (s : State) (run : List Change) (t : State) : Type 0 where
+  pub lawful : Run (moves p) s run
+  pub adding : OnlyAdds run
+  pub among : Each (λ u. T (listed users u)) run
+  pub ends : end s run ≡ t
+  pub closed : (actor user : User) (role : Role) (number : ℕ) → T (listed users actor) → T (listed users user) → MayAdd p t actor user role number → T (t user role)
+
+-- the list has the tracked users and the hire, each of them once
+pub record InSlots {p : Policy} {s : State} (k : Tracking p s) (users : List User) : Type 0 where
+  pub few : length users ≤ tracked_users
+  pub apart : Apart users
+  pub looked : (u : User) → T (listed users u) ↔ TrackedOrHire k u
 
 -- the records of steps taken are a closing, by and to users that are looked at, of at most n steps, and its end is what the facts say
-pub record IsRun {p : Policy} {s : State} (k : Tracking p s) (z : Slots k) (run : List Change) (f : Facts) (n : ℕ) : Type 0 where
+pub record IsRun {p : Policy} {s : State} (k : Tracking p s) (users : List User) (run : List Change) (f : Facts) (n : ℕ) : Type 0 where
   pub closing : Closing (moves p) k run
-  pub looked : Each (Looked k) run
-  pub ends : end s run ≡ state_of k z f
+  pub looked : Each (TrackedOrHire k) run
+  pub ends : end s run ≡ said users f
   pub short : length run ≤ n
 
 abbrev pub ClosingIsARun : ℕ → Type 0
 ClosingIsARun n =
-    (p : Policy) (s : State) → Measured p s → (k : Tracking p s) (z : Slots k)
-    → (down : Role → Role → Bool) → TellsSenior p down
-    → (present : Facts) → ((u : User) (r : Role) → state_of k z present u r ≡ s u r)
-    → (run : List Change) (f : Facts) → Trace (delegation k z down) present run f → Shut (delegation k z down) f
-    → IsRun k z run f n
+    (p : Policy) (s : State) → WithinMeasures p s → (k : Tracking p s) (users : List User) → InSlots k users
+    → (present : Facts) → ((u : User) (r : Role) → said users present u r ≡ s u r)
+    → (run : List Change) (f : Facts) → Trace (delegation (λ c. c) p users) present run f → Shut (delegation (λ c. c) p users) f
+    → IsRun k users run f n

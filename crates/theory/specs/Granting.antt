@@ -1,10 +1,9 @@
 -- When a delegate's call is granted, and that runs are.
 use Rattle.std.specs.Prelude.{ℕ, not, T, List, [], ◌∷◌}
-use Rattle.meaning.specs.Measures.{rows}
 use Rattle.meaning.specs.Membership.{User, Role, State}
 use Rattle.meaning.specs.Rules.{Policy, MayAdd, MayRemove}
 use Rattle.meaning.specs.Runs.{Change, adds, removes, after, moves, Run}
-use Rattle.meaning.specs.Regimes.{Regular}
+use Rattle.meaning.specs.Regimes.{ObeysRegime}
 use Rattle.meaning.specs.Rows.{Holder, FreeRow, FreeRows}
 
 -- an adding is granted: the actor is not trusted, the role is not assigned, some assign rule permits it, and a user without a row finds a free one
@@ -20,15 +19,15 @@ pub record RemovingGranted (p : Policy) (s : State) (actor user : User) (role : 
   pub there : T (s user role)
   pub permits : (number : ℕ) × MayRemove p s actor user role number
 
-abbrev pub Granted : Policy → State → Change → Type 0
-Granted p s (adds a u r k) = AddingGranted p s a u r
-Granted p s (removes a u r k) = RemovingGranted p s a u r
+abbrev pub CallGranted : Policy → State → Change → Type 0
+CallGranted p s (adds a u r k) = AddingGranted p s a u r
+CallGranted p s (removes a u r k) = RemovingGranted p s a u r
 
 -- call by call, each in the state that those before it left
-abbrev pub GrantedInTurn : Policy → State → List Change → Type 0
-GrantedInTurn p s [] = Unit {0}
-GrantedInTurn p s (x ∷ xs) = Granted p s x × GrantedInTurn p (after x s) xs
+abbrev pub CallsGranted : Policy → State → List Change → Type 0
+CallsGranted p s [] = Unit {0}
+CallsGranted p s (x ∷ xs) = CallGranted p s x × CallsGranted p (after x s) xs
 
 -- the delegates' calls grant every run that n rows have room for
 abbrev pub RunGranted : ℕ → Type 0
-RunGranted n = (p : Policy) (s : State) → Regular p s → (run : List Change) → Run (moves p) s run → FreeRows s run n → GrantedInTurn p s run
+RunGranted n = (p : Policy) (s : State) → ObeysRegime p s → (run : List Change) → Run (moves p) s run → FreeRows s run n → CallsGranted p s run

@@ -9,12 +9,12 @@ use Rattle.meaning.specs.declared.terms.Kind.{Kind}
 use Rattle.meaning.specs.Requirements.{Requirement, Stands}
 
 -- what is so of the present state is so of every reachable one; this holds of what is necessary
-abbrev pub Lasts : Kind → Type 0
-Lasts kind = (p : Policy) (s : State) (run : List Change) → Run (moves p) s run → (q : Question) → IsYes kind p s q → IsYes kind p (end s run) q
+abbrev pub PreservedByRuns : Kind → Type 0
+PreservedByRuns kind = (p : Policy) (s : State) (run : List Change) → Run (moves p) s run → (q : Question) → IsYes kind p s q → IsYes kind p (end s run) q
 
 -- what is so of some reachable state is so of the present one; this holds of what is possible
-abbrev pub Foreseen : Kind → Type 0
-Foreseen kind = (p : Policy) (s : State) (run : List Change) → Run (moves p) s run → (q : Question) → IsYes kind p (end s run) q → IsYes kind p s q
+abbrev pub ReflectedByRuns : Kind → Type 0
+ReflectedByRuns kind = (p : Policy) (s : State) (run : List Change) → Run (moves p) s run → (q : Question) → IsYes kind p (end s run) q → IsYes kind p s q
 
 -- no permitted change breaks a requirement that stands: nothing need be weighed again
 abbrev pub DelegatesKeepRequirements : Type 0

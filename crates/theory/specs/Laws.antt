@@ -1,4 +1,4 @@
--- What the rules about actors and users have to keep, so that one hire stands for all others.
+-- What the rules about actors and users have to keep, so that one hire represents all others.
 use Rattle.std.specs.Prelude.{ℕ, not, T}
 use Rattle.meaning.specs.Membership.{User, Role, IsUser, State}
 use Rattle.meaning.specs.Rules.{Policy}

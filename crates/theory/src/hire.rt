@@ -1,5 +1,7 @@
-// One hire stands for all users without a row whom the question does not name.
-ghost use Rattle.theory.specs.Hire.{HireExists, HireStands};
+// One hire represents all users without a row whom the question does not name.
+ghost use Rattle.std.specs.Prelude.{◌≡◌};
+ghost use Rattle.meaning.specs.Measures.{users};
+ghost use Rattle.theory.specs.Hire.{HireExists, HireRepresentsOthers};
 ghost use Rattle.theory.specs.Laws.{RulesDelegable};
 
 use meaning::USERS;
@@ -7,19 +9,23 @@ use meaning::USERS;
 // Fewer users than this with a row, named or trusted leave one for a hire.
 const ENOUGH_FOR_A_HIRE: usize = USERS;
 
-// The hire stands for those not tracked among so many users.
+// The hire represents those not tracked among so many users.
 const STOOD_FOR: usize = USERS;
 
+/// How many users there are: always more than have a row, are named or are trusted.
 pub fn hire_exists() -> usize
-    ensures { HireExists result }
+    ensures exists { HireExists users }
+    ensures number { result ≡ users }
 {
     ENOUGH_FOR_A_HIRE
 }
 
-// The rules keep the laws that this is argued from: a stricter rule that keeps them needs no new argument.
+/// Among how many users one hire represents all who are not tracked: all there are.
+/// The rules keep the laws that this is argued from: a stricter rule that keeps them needs no new argument.
 pub fn hire_stands() -> usize
     ensures laws { RulesDelegable }
-    ensures stands { HireStands result }
+    ensures stands { HireRepresentsOthers users }
+    ensures number { result ≡ users }
 {
     STOOD_FOR
 }

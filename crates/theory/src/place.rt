@@ -1,8 +1,8 @@
 // Where a question is decided.
 
-// What removing leaves, and what adding can make.
+/// What removing all that can be revoked leaves, and what adding can make at most.
 #[derive(Clone, Copy, PartialEq, Eq, Debug)]
 pub enum Place {
-    Floor,
-    Top,
+    LeastState,
+    GreatestState,
 }

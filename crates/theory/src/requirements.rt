@@ -1,19 +1,19 @@
 // What permitted changes cannot take away.
-ghost use Rattle.theory.specs.Lasting.{DelegatesKeepRequirements, Foreseen, Lasts};
+ghost use Rattle.theory.specs.Lasting.{DelegatesKeepRequirements, ReflectedByRuns, PreservedByRuns};
 
 use meaning::Kind;
 
-// What is so now and stays so in every reachable state; so a requirement that stands is not weighed again after a permitted change.
+/// The kind of question of which a yes now stays a yes in every reachable state; so a requirement that stands is not weighed again after a permitted change.
 pub fn lasting() -> Kind
-    ensures lasts { Lasts result }
+    ensures lasts { PreservedByRuns result }
     ensures requirements { DelegatesKeepRequirements }
 {
     Kind::Necessary
 }
 
-// What is so in some reachable state and is so already now.
+/// The kind of question of which a yes in some reachable state is a yes already now.
 pub fn foreseen() -> Kind
-    ensures { Foreseen result }
+    ensures { ReflectedByRuns result }
 {
     Kind::Possible
 }

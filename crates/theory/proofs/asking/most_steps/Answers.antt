@@ -1,5 +1,5 @@
 use Rattle.theory.proofs.Shown.{shown}
 use Rattle.theory.proofs.asking.most_steps.Goals as goal
 
-pub returns : goal.returns
-returns c = shown
+pub returns-clause-shown : goal.returns-clause-shown
+returns-clause-shown c = shown

@@ -1,5 +1,5 @@
 use Rattle.theory.proofs.Shown.{closable}
 use Rattle.theory.proofs.delegation.closing_exists.Goals as goal
 
-pub returns : goal.returns
-returns c = closable
+pub returns-clause-exists : goal.returns-clause-exists
+returns-clause-exists c = closable

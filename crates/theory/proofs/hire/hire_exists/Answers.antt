@@ -1,6 +1,5 @@
-use Rattle.std.proofs.Common.{arith}
-use Rattle.theory.proofs.Room.{hired}
+use Rattle.theory.proofs.Room.{hired, on_board}
 use Rattle.theory.proofs.hire.hire_exists.Goals as goal
 
-pub returns : goal.returns
-returns c = record { hired = hired; enough = omega arith }
+pub returns-clause-exists : goal.returns-clause-exists
+returns-clause-exists c = record { among = hired; on_board = on_board }
