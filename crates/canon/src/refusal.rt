@@ -4,7 +4,7 @@ use texts::Fault;
 // The number of the refusal of a line that names more than a table holds, whatever the board.
 const FULL: u8 = 13;
 
-// Why a text is not printed: a fault that it is refused for, or a line that trusts more users than a board has places for.
+/// Why a text is not printed: a fault that it is refused for, or a line that trusts more users than a board has places for.
 #[derive(Clone, Copy, Debug, PartialEq, Eq)]
 pub enum Refusal {
     Text(Fault),

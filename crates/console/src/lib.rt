@@ -2,9 +2,5 @@
 #![tactic(auto)]
 
 mod input;
-mod parts;
-#[cfg(test)]
-mod tests;
 
 pub use input::fill;
-pub use parts::{Parts, read_parts};

@@ -3,7 +3,7 @@ use Rattle.std.proofs.Common.{◌≡◌, ℕ, zero, suc, ◌+◌, ◌-◌, ◌*�
 use borrow.Author.Tests.{lt-leb}
 use Rattle.std.proofs.lemmas.List.{drop_more, length-take-le, length-drop, take_all}
 use Rattle.std.proofs.lemmas.Bool.{cond-true, cond-false, and_parts, and_from, or_left, or_right, not_from_false}
-use Rattle.grammar.specs.Text.{begins, run, is_digit, value, well_formed, number, begins_zero, Read, got, none, passes, Cut, ahead, behind, is_letter, taken, Reads, Left, rest}
+use Rattle.grammar.specs.Text.{most_digits, begins, run, is_digit, value, well_formed, number, begins_zero, Read, got, none, passes, Cut, ahead, behind, is_letter, taken, Reads, Left, rest}
 use Rattle.grammar.specs.declared.tokens.Part.{Part}
 use Rattle.grammar.specs.declared.tokens.Part.TheVariants.{Word, Number, Sign, End}
 
@@ -56,9 +56,9 @@ number_is s k e w =
     let P : ℕ → Type 0 = λ j. cond (well_formed j s) (got (value 0 (take j s)) (drop j s)) none ≡ got (value 0 (take k s)) (drop k s) in
     subst P e (cond-true _ _ _ w)
 
-pub number_good : (s : List ℕ) (k : ℕ) → 0 < k → k ≤ 5 → (k ≤ 1) ⊎ (begins_zero s ≡ false) → well_formed k s ≡ true
+pub number_good : (s : List ℕ) (k : ℕ) → 0 < k → k ≤ most_digits → (k ≤ 1) ⊎ (begins_zero s ≡ false) → well_formed k s ≡ true
 number_good s k a b w =
-    and_from _ _ (lt-ltb 0 k a) (and_from _ _ (le-leb k 5 b)
+    and_from _ _ (lt-ltb 0 k a) (and_from _ _ (le-leb k most_digits b)
     (⊎_elim (λ h. or_left (leb k 1) (not (begins_zero s)) (le-leb k 1 h)) (λ h. or_right (leb k 1) (not (begins_zero s)) (not_from_false _ h)) w))
 
 pub no_zero : (s : List ℕ) (b : ℕ) → slice_get s 0 ≡ Some b → eqb b 48 ≡ false → begins_zero s ≡ false
@@ -94,7 +94,7 @@ front_zero k s = grind arith
 
 front_good : (k : ℕ) (s : List ℕ) → well_formed k (take k s) ≡ well_formed k s
 front_good zero s = refl
-front_good (suc k) s = ap (λ b. ltb 0 (suc k) && (leb (suc k) 5 && (leb (suc k) 1 || not b))) (front_zero k s)
+front_good (suc k) s = ap (λ b. ltb 0 (suc k) && (leb (suc k) most_digits && (leb (suc k) 1 || not b))) (front_zero k s)
 
 -- what a number's digits alone give, with what follows them
 abbrev pub onto : Read → List ℕ → Read

@@ -1,6 +1,7 @@
 -- One step of the scanning, and all of them.
 use Rattle.std.proofs.Common.{◌≡◌, ℕ, zero, suc, Bool, true, false, cond, eqb, ◌⊎◌, List, [], ◌∷◌, sym, refl, ap, ◌∙◌, subst, inl, inr, arith, eq-eqb, eqb-true}
 use Rattle.std.proofs.lemmas.Bool.{cond-true, cond-false}
+use Rattle.meaning.specs.Measures as measures
 use Rattle.grammar.specs.declared.sizes.Size.{Size}
 use Rattle.grammar.specs.declared.sizes.State.{State}
 use Rattle.grammar.specs.declared.sizes.Leaf.{Leaf}
@@ -117,16 +118,16 @@ moves Another d m s q x e = first (pick_ways 117 s _ _ _ e)
 abbrev pub leaf_of : Mode → ℕ → ℕ → Bool → Bool → Leaf
 leaf_of k limit l f a = record { then = k; limit = limit; size = record { operands = 1; levels = l; fits = true; fixed = f; roles = a } }
 
-pub leaf_role : (d : ℕ) (m : Size) (r : Read) → leaf Sign members 0 d m r ≡ leaf_by (leaf_of Sign 64 0 false true) d m r
+pub leaf_role : (d : ℕ) (m : Size) (r : Read) → leaf Sign members 0 d m r ≡ leaf_by (leaf_of Sign measures.roles 0 false true) d m r
 leaf_role d m r = grind arith
 
-pub leaf_permission : (d : ℕ) (m : Size) (r : Read) → leaf Sign holders 0 d m r ≡ leaf_by (leaf_of Sign 32 0 false false) d m r
+pub leaf_permission : (d : ℕ) (m : Size) (r : Read) → leaf Sign holders 0 d m r ≡ leaf_by (leaf_of Sign measures.permissions 0 false false) d m r
 leaf_permission d m r = grind arith
 
-leaf_user : (l d : ℕ) (m : Size) (r : Read) → leaf Comma only l d m r ≡ leaf_by (leaf_of Comma 65536 l true false) d m r
+leaf_user : (l d : ℕ) (m : Size) (r : Read) → leaf Comma only l d m r ≡ leaf_by (leaf_of Comma measures.users l true false) d m r
 leaf_user l d m r = grind arith
 
 -- a user behind a brace and one behind a comma differ in their levels alone
-pub users_step : (l d : ℕ) (m : Size) (s : List ℕ) → pick 117 s (λ s1. leaf Comma only l d m (number s1)) bad ≡ user_step (leaf_of Comma 65536 l true false) d m s
+pub users_step : (l d : ℕ) (m : Size) (s : List ℕ) → pick 117 s (λ s1. leaf Comma only l d m (number s1)) bad ≡ user_step (leaf_of Comma measures.users l true false) d m s
 users_step l d m [] = refl
 users_step l d m (b ∷ bs) = ap (λ y. cond (eqb b 117) y bad) (leaf_user l d m (number bs))

@@ -2,13 +2,10 @@
 use Rattle.std.specs.Prelude.{◌≡◌, ℕ, suc, ◌+◌, ◌<◌, max, Bool, true, false, ◌&&◌, List, [], ◌∷◌, ◌++◌, decimal, nat_lt}
 use Rattle.meaning.specs.Sets.{UserSet, members, holders, only, nobody, union, intersection}
 use Rattle.meaning.specs.Measures as measures
-use Rattle.grammar.specs.Text.{begins, begins_digit}
+use Rattle.grammar.specs.Text.{number_limit, begins, begins_digit}
 
 pub data Kind : Type 0 where
-  set : Kind
-  term : Kind
-  factor : Kind
-  users : Kind
+  set term factor users : Kind
 
 -- what is written: terms joined by |, factors joined by &, users joined by a comma
 pub data Phrase : Kind → Type 0 where
@@ -58,22 +55,30 @@ levels (one t) = levels t
 levels (or s t) = max (levels s) (levels t)
 levels (lone f) = levels f
 levels (and t f) = max (levels t) (levels f)
-levels (a_role n) = 0
-levels (a_permission n) = 0
-levels no_users = 0
 levels (braces us) = levels us
 levels (parens s) = suc (levels s)
-levels (a_user n) = 0
 levels (also us n) = 1
+levels x = 0
+
+-- how many pairs of parentheses are written; several users in braces are one pair
+abbrev pub pairs : {k : Kind} → Phrase k → ℕ
+pairs (one t) = pairs t
+pairs (or s t) = pairs s + pairs t
+pairs (lone f) = pairs f
+pairs (and t f) = pairs t + pairs f
+pairs (a_role n) = 0
+pairs (a_permission n) = 0
+pairs no_users = 0
+pairs (braces us) = pairs us
+pairs (parens s) = suc (pairs s)
+pairs (a_user n) = 0
+pairs (also us n) = 1
 
 -- how many roles, permissions, users and empty braces
 abbrev pub operands : UserSet → ℕ
-operands (members n) = 1
-operands (holders n) = 1
-operands (only n) = 1
-operands nobody = 1
 operands (union a b) = operands a + operands b
 operands (intersection a b) = operands a + operands b
+operands x = 1
 
 -- every number is in its range
 abbrev pub in_range : UserSet → Bool
@@ -96,17 +101,15 @@ static (intersection a b) = static a && static b
 -- roles alone
 abbrev pub roles_alone : UserSet → Bool
 roles_alone (members n) = true
-roles_alone (holders n) = false
-roles_alone (only n) = false
-roles_alone nobody = false
 roles_alone (union a b) = roles_alone a && roles_alone b
 roles_alone (intersection a b) = roles_alone a && roles_alone b
+roles_alone x = false
 
--- every number has at most five digits
+-- every number is short enough to be written
 abbrev pub Short : UserSet → Type 0
-Short (members n) = n < 100000
-Short (holders n) = n < 100000
-Short (only n) = n < 100000
+Short (members n) = n < number_limit
+Short (holders n) = n < number_limit
+Short (only n) = n < number_limit
 Short nobody = Unit {0}
 Short (union a b) = Short a × Short b
 Short (intersection a b) = Short a × Short b

@@ -66,9 +66,16 @@ abbrev pub begins_zero : List ℕ → Bool
 begins_zero [] = false
 begins_zero (b ∷ bs) = b == 48
 
--- the digits at the front are 1 to 5, and the first is no zero unless it is alone
+-- a number is written with at most so many digits, and so it is below the limit
+abbrev pub most_digits : ℕ
+most_digits = 5
+
+abbrev pub number_limit : ℕ
+number_limit = 100000
+
+-- the digits at the front are one or more and not too many, and the first is no zero unless it is alone
 abbrev pub well_formed : ℕ → List ℕ → Bool
-well_formed k s = nat_lt 0 k && (nat_le k 5 && (nat_le k 1 || not (begins_zero s)))
+well_formed k s = nat_lt 0 k && (nat_le k most_digits && (nat_le k 1 || not (begins_zero s)))
 
 unfoldable pub number : List ℕ → Read
 number s = cond (well_formed (run is_digit s) s) (got (value 0 (take (run is_digit s) s)) (drop (run is_digit s) s)) none

@@ -19,7 +19,7 @@ fn letter(b: u8) -> bool
     matches!(b, b'a'..=b'z')
 }
 
-// How many bytes at the front pass the test.
+/// How many bytes at the front pass the test.
 pub fn run_length<F: Fn(u8) -> bool>(s: &[u8], passes: F) -> usize
     requires { F.IsAlwaysCallable passes }
     ensures within { result ≤ length s.now }
@@ -46,7 +46,7 @@ fn value_of(digits: &[u8]) -> Option<u32>
 }
 
 impl<'a> Reader<'a> {
-    // The word, number or sign that stands next, as a part of the text.
+    /// The word, number or sign that stands next, as a part of the text.
     pub fn token(&mut self) -> Token<'a>
         ensures read { Reads result.part (rest self.old) (rest self.new) }
         ensures line { (result.line ≡ self.old.line) × (self.new.line ≡ self.old.line) }
@@ -62,7 +62,7 @@ impl<'a> Reader<'a> {
         Token { part, line }
     }
 
-    // Takes a number if one stands next.
+    /// Takes a number if one stands next.
     pub fn number(&mut self) -> Option<u32>
         ensures read { number_of (rest self.old) ≡ taken result (rest self.new) }
         ensures less { length (rest self.new) ≤ length (rest self.old) }
@@ -74,14 +74,14 @@ impl<'a> Reader<'a> {
         }
     }
 
-    // The sign that stands next, if the text goes on.
+    /// The sign that stands next, if the text goes on.
     pub fn sign(&self) -> Option<char>
         ensures { result ≡ ahead (rest self.now) }
     {
         self.rest().first().map(|b| *b as char)
     }
 
-    // Goes over one byte, if there is one.
+    /// Goes over one byte, if there is one.
     pub fn skip(&mut self)
         ensures read { rest self.new ≡ behind (rest self.old) }
     {
@@ -90,7 +90,7 @@ impl<'a> Reader<'a> {
         }
     }
 
-    // Takes the sign if it stands next.
+    /// Takes the sign if it stands next.
     pub fn take(&mut self, sign: u8) -> bool
         ensures read { elim result [ true ↦ rest self.old ≡ sign ∷ rest self.new | false ↦ (begins sign (rest self.old) ≡ false) × (rest self.new ≡ rest self.old) ] }
     {
@@ -101,7 +101,7 @@ impl<'a> Reader<'a> {
         found
     }
 
-    // Takes these bytes if they stand next.
+    /// Takes these bytes if they stand next.
     pub fn takes(&mut self, word: &[u8]) -> bool
         ensures read { Takes word.now (rest self.old) result (rest self.new) }
     {

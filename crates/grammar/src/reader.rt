@@ -4,7 +4,7 @@ ghost use Rattle.grammar.specs.Text.{rest, is_nil, Cut};
 
 use std::marker::Model;
 
-// A caller sees of a reader only the bytes that are left and its line, so no call has to promise that the text stays.
+/// A caller sees of a reader only the bytes that are left and its line, so no call has to promise that the text stays.
 #[derive(Drop)]
 pub struct Reader<'a> {
     text: &'a [u8],
@@ -24,7 +24,7 @@ impl<'a> Model for Reader<'a> {
 }
 
 impl<'a> Reader<'a> {
-    // A reader of this text, which begins in the line of that number.
+    /// A reader of this text, which begins in the line of that number.
     pub fn new(text: &'a [u8], line: usize) -> Reader<'a>
         ensures rest { rest result ≡ text.now }
         ensures line { result.line ≡ line }
@@ -36,21 +36,21 @@ impl<'a> Reader<'a> {
         }
     }
 
-    // What is left to read.
+    /// What is left to read.
     pub fn rest(&self) -> &'a [u8]
         ensures { result.now ≡ rest self.now }
     {
         &self.text[self.place..]
     }
 
-    // The number of the line.
+    /// The number of the line.
     pub fn line(&self) -> usize
         ensures { result ≡ self.now.line }
     {
         self.line
     }
 
-    // Whether all of the text is read.
+    /// Whether all of the text is read.
     pub fn is_at_end(&self) -> bool
         ensures { result ≡ is_nil (rest self.now) }
     {

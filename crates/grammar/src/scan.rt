@@ -177,7 +177,7 @@ fn step(r: &mut Reader, at: State) -> Step
     }
 }
 
-// Scans the set at the place, of any depth, and goes to its end.
+/// Scans the set at the place, of any depth, and goes to its end.
 pub fn scan(r: &mut Reader) -> Option<Size>
     ensures { Scanned (rest r.old) result (rest r.new) }
 {

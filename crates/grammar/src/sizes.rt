@@ -1,8 +1,8 @@
 ghost use Rattle.std.specs.Prelude.{◌≡◌, ◌+◌, ◌^◌, ◌<◌, max};
 ghost use Rattle.grammar.specs.Scan.{empty as empty_size, grow as grown};
 
-// What is counted of a set: operands, levels, whether each number is in range, whether no role and no permission
-// stands in it, and whether roles alone do. The three flags are independent facts.
+/// What is counted of a set: operands, levels, whether each number is in range, whether no role and no permission
+/// stands in it, and whether roles alone do. The three flags are independent facts.
 #[derive(Clone, Copy)]
 pub struct Size {
     pub operands: usize,
@@ -13,7 +13,7 @@ pub struct Size {
 }
 
 impl Size {
-    // The size of no set at all.
+    /// The size of no set at all.
     pub fn empty() -> Size
         ensures { result ≡ empty_size }
     {
@@ -42,7 +42,7 @@ impl Size {
     }
 }
 
-// What may stand next.
+/// What may stand next.
 #[derive(Clone, Copy)]
 pub enum Mode {
     Operand,
@@ -59,7 +59,7 @@ pub struct State {
     pub size: Size,
 }
 
-// An operand that is a letter and a number: what may stand behind it, what its number is below, and its size.
+/// An operand that is a letter and a number: what may stand behind it, what its number is below, and its size.
 #[derive(Clone, Copy)]
 pub struct Leaf {
     pub then: Mode,

@@ -3,6 +3,7 @@ use Rattle.std.proofs.Common.{◌≡◌, ℕ, ◌<◌, Bool, true, false, ◌&&�
 use borrow.Author.Tests.{clash}
 use Rattle.std.proofs.lemmas.Bool.{and_parts}
 use Rattle.std.specs.Option.{is_some}
+use Rattle.meaning.specs.Measures as measures
 use Rattle.lines.proofs.Naming.{noted_fits}
 use Rattle.grammar.specs.declared.sizes.Size.{Size}
 use Rattle.grammar.specs.declared.grounds.Ground.{Ground}
@@ -17,15 +18,15 @@ use Rattle.lines.specs.declared.change.Change.TheVariants as change
 use Rattle.lines.specs.declared.keyword.Keyword.TheVariants.{Assign}
 use Rattle.lines.specs.declared.parts.Assigned.{Assigned}
 use Rattle.lines.specs.declared.change.Extra.{Extra}
-use Rattle.lines.specs.Entries.{entries, entry_at}
+use Rattle.lines.specs.Entries.{entry_at, entry_bytes}
 use Rattle.lines.specs.Lists.{Noted, Listed}
 use Rattle.lines.specs.Languages.{Says, Least}
-use Rattle.lines.specs.Bodies.{roles_in, Clause, always_true, in_set, clause_bytes, ProperClause, clause_ranged, clause_small, Assigning, assigns}
-use Rattle.lines.specs.Lines.{Body, TreeOf, says_assign}
+use Rattle.lines.specs.Bodies.{deepest, roles_in, Clause, always_true, in_set, clause_bytes, ProperClause, clause_ranged, clause_small, Assigning, assigns}
 use Rattle.lines.specs.Clauses.{size_in, sized, Clauses, Conditions, AssignedOf, Assigns, assigned_ground}
 use Rattle.lines.proofs.Entering.{entry_written, entry_read}
 use Rattle.lines.proofs.Judging.{Verdict, syntax_least, verdict_is, judged_fine, told}
 use Rattle.lines.proofs.Rowing.{some_is, no_some, none_got, got_is}
+use Rattle.lines.specs.Changes.{TreeOf, says_assign, Body}
 
 -- ---- a condition
 
@@ -86,30 +87,30 @@ module _ (s : List ℕ) where
 -- ---- building it
 
 module _ (s : List ℕ) where
-  small : (p : Phrase set) → clause_ranged (in_set p) ≡ true → clause_small (in_set p) ≡ true → Small 8 p
+  small : (p : Phrase set) → clause_ranged (in_set p) ≡ true → clause_small (in_set p) ≡ true → Small deepest p
   small p r m =
-      let q = and_parts (leb (operands (meaning p)) 16) (leb (levels p) 8) m in
-      let o = leb-true (operands (meaning p)) 16 q.0 in
-      record { range = r; deep = leb-true (levels p) 8 q.1; many = omega arith }
+      let q = and_parts (leb (operands (meaning p)) measures.condition_operands) (leb (levels p) deepest) m in
+      let o = leb-true (operands (meaning p)) measures.condition_operands q.0 in
+      record { range = r; deep = leb-true (levels p) deepest q.1; many = omega arith }
 
-  pub condition_set : (size : Size) (left : Nodes) (s1 : List ℕ) → Built 8 s (Some left) s1 → Conditions s (Some size) (Some (Some left))
+  pub condition_set : (size : Size) (left : Nodes) (s1 : List ℕ) → Built deepest s (Some left) s1 → Conditions s (Some size) (Some (Some left))
   condition_set size left s1 b always_true x q p n y r m = no_some _ (sym y)
   condition_set size left s1 b (in_set c) x q p n y r m = (Some left, refl, (left, refl, (b c x (record { bytes = q; short = p.0 }) n (small c r m)).0))
 
 -- ---- the whole line
 
 module _ (s : List ℕ) (x : Assigning) (w : Says assigns s x) where
-  number_is : entry_at 114 s ≡ got x.row.subject (codes " : " ++ (clause_bytes x.clause ++ (codes " :" ++ entries 114 (roles_in x.row))))
+  number_is : entry_at 114 s ≡ got x.row.subject (codes " : " ++ (clause_bytes x.clause ++ (codes " :" ++ entry_bytes 114 (roles_in x.row))))
   number_is = ap (entry_at 114) w.0 ∙ entry_written 114 x.row.subject _ w.1.0 refl
 
-  clause_is : (n : ℕ) (s1 : List ℕ) → entry_at 114 s ≡ got n s1 → (r : Bool) (s2 : List ℕ) → Takes (codes " : ") s1 r s2 → (n ≡ x.row.subject) × (r ≡ true) × (s2 ≡ clause_bytes x.clause ++ (codes " :" ++ entries 114 (roles_in x.row)))
+  clause_is : (n : ℕ) (s1 : List ℕ) → entry_at 114 s ≡ got n s1 → (r : Bool) (s2 : List ℕ) → Takes (codes " : ") s1 r s2 → (n ≡ x.row.subject) × (r ≡ true) × (s2 ≡ clause_bytes x.clause ++ (codes " :" ++ entry_bytes 114 (roles_in x.row)))
   clause_is n s1 e r s2 t =
       let g = got_is _ _ _ _ (sym e ∙ number_is) in
-      let f = t.found (clause_bytes x.clause ++ (codes " :" ++ entries 114 (roles_in x.row))) g.1 in
+      let f = t.found (clause_bytes x.clause ++ (codes " :" ++ entry_bytes 114 (roles_in x.row))) g.1 in
       (g.0, f.0, f.1)
 
-  size_is : (s2 : List ℕ) → s2 ≡ clause_bytes x.clause ++ (codes " :" ++ entries 114 (roles_in x.row)) → (r : Option (Option Size)) (s3 : List ℕ) → Clauses s2 r s3 → (r ≡ Some (size_in x.clause)) × (s3 ≡ codes " :" ++ entries 114 (roles_in x.row))
-  size_is s2 e r s3 k = k.found x.clause (codes " :" ++ entries 114 (roles_in x.row)) e w.1.2 (record { no_and = refl; no_or = refl; no_digit = refl })
+  size_is : (s2 : List ℕ) → s2 ≡ clause_bytes x.clause ++ (codes " :" ++ entry_bytes 114 (roles_in x.row)) → (r : Option (Option Size)) (s3 : List ℕ) → Clauses s2 r s3 → (r ≡ Some (size_in x.clause)) × (s3 ≡ codes " :" ++ entry_bytes 114 (roles_in x.row))
+  size_is s2 e r s3 k = k.found x.clause (codes " :" ++ entry_bytes 114 (roles_in x.row)) e w.1.2 (record { no_and = refl; no_or = refl; no_digit = refl })
 
 module _ (s : List ℕ) where
   none_assigned : ((x : Assigning) → Says assigns s x → ⊥) → Assigns s None
@@ -127,15 +128,15 @@ module _ (s : List ℕ) where
       no_clause s3 k = none_assigned (λ x w. no_some _ (size_is s x w s2 (clause_is s x w n s1 a true s2 b).2 None s3 k).0)
 
       module _ (m : Option Size) (s3 : List ℕ) (k : Clauses s2 (Some m) s3) where
-        behind : (x : Assigning) → Says assigns s x → s3 ≡ codes " :" ++ entries 114 (roles_in x.row)
+        behind : (x : Assigning) → Says assigns s x → s3 ≡ codes " :" ++ entry_bytes 114 (roles_in x.row)
         behind x w = (size_is s x w s2 (clause_is s x w n s1 a true s2 b).2 (Some m) s3 k).1
 
         pub no_second : (s4 : List ℕ) → Takes (codes " :") s3 false s4 → Assigns s None
-        no_second s4 d = none_assigned (λ x w. clash (d.found (entries 114 (roles_in x.row)) (behind x w)).0)
+        no_second s4 d = none_assigned (λ x w. clash (d.found (entry_bytes 114 (roles_in x.row)) (behind x w)).0)
 
         module _ (s4 : List ℕ) (d : Takes (codes " :") s3 true s4) where
-          list_is : (x : Assigning) → Says assigns s x → s4 ≡ entries 114 (roles_in x.row)
-          list_is x w = (d.found (entries 114 (roles_in x.row)) (behind x w)).1
+          list_is : (x : Assigning) → Says assigns s x → s4 ≡ entry_bytes 114 (roles_in x.row)
+          list_is x w = (d.found (entry_bytes 114 (roles_in x.row)) (behind x w)).1
 
           pub no_targets : Listed 114 Noted s4 None → Assigns s None
           no_targets l = none_assigned (λ x w. let h = l.found x.row.first x.row.more (list_is x w) w.1.1 in no_some h.0 h.1)
@@ -154,7 +155,7 @@ module _ (s : List ℕ) where
                 let f = k.real m refl in
                 let h = l.real v refl in
                 let x : Assigning = record { row = record { subject = n; first = h.0; more = h.1 }; clause = f.0 } in
-                let end : s2 ≡ clause_bytes f.0 ++ (codes " :" ++ entries 114 (h.0 ∷ h.1)) = f.1 ∙ ap (λ y. clause_bytes f.0 ++ y) (d.real refl ∙ ap (λ y. codes " :" ++ y) h.2) in
+                let end : s2 ≡ clause_bytes f.0 ++ (codes " :" ++ entry_bytes 114 (h.0 ∷ h.1)) = f.1 ∙ ap (λ y. clause_bytes f.0 ++ y) (d.real refl ∙ ap (λ y. codes " :" ++ y) h.2) in
                 subst (λ z. (y : Assigning) × (Says assigns s y) × AssignedOf z y) (some_is _ _ e) (
                   x,
                   (r.0 ∙ ap (λ y. 32 ∷ 114 ∷ (decimal n ++ y)) (b.real refl ∙ ap (λ y. codes " : " ++ y) end), (r.1, h.3, f.2)),
@@ -171,7 +172,7 @@ size_ranged : (c : Clause) → (sized (size_in c)).fits ≡ clause_ranged c
 size_ranged always_true = refl
 size_ranged (in_set p) = refl
 
-size_small : (c : Clause) → (leb (sized (size_in c)).operands 16 && leb (sized (size_in c)).levels 8) ≡ clause_small c
+size_small : (c : Clause) → (leb (sized (size_in c)).operands measures.condition_operands && leb (sized (size_in c)).levels deepest) ≡ clause_small c
 size_small always_true = refl
 size_small (in_set p) = refl
 
@@ -182,23 +183,23 @@ module _ (s : List ℕ) (m : Assigned) (h : Assigns s (Some m)) where
   some : (x : Assigning) × Says assigns s x
   some = let f = h.real m refl in (f.0, f.1)
 
-  ranged : (x : Assigning) → Says assigns s x → assigns.ranged x ≡ (ltb m.admin 64 && ((sized m.size).fits && is_some m.names))
+  ranged : (x : Assigning) → Says assigns s x → assigns.ranged x ≡ (ltb m.admin measures.roles && ((sized m.size).fits && is_some m.names))
   ranged x w =
       let o = every x w in
-      ap₂ ◌&&◌ (ap (λ n. ltb n 64) (sym o.admin)) (ap₂ ◌&&◌ (sym (size_ranged x.clause) ∙ ap (λ z. (sized z).fits) (sym o.size)) (sym (noted_fits m.names (roles_in x.row) o.names)))
+      ap₂ ◌&&◌ (ap (λ n. ltb n measures.roles) (sym o.admin)) (ap₂ ◌&&◌ (sym (size_ranged x.clause) ∙ ap (λ z. (sized z).fits) (sym o.size)) (sym (noted_fits m.names (roles_in x.row) o.names)))
 
-  small_is : (x : Assigning) → Says assigns s x → clause_small x.clause ≡ (leb (sized m.size).operands 16 && leb (sized m.size).levels 8)
-  small_is x w = sym (size_small x.clause) ∙ ap (λ z. leb (sized z).operands 16 && leb (sized z).levels 8) (sym (every x w).size)
+  small_is : (x : Assigning) → Says assigns s x → clause_small x.clause ≡ (leb (sized m.size).operands measures.condition_operands && leb (sized m.size).levels deepest)
+  small_is x w = sym (size_small x.clause) ∙ ap (λ z. leb (sized z).operands measures.condition_operands && leb (sized z).levels deepest) (sym (every x w).size)
 
   pub assign_verdict : (r : Result (Unit {0}) Ground) → r ≡ assigned_ground m → Verdict assigns s r
   assign_verdict r e = verdict_is assigns s _ _ _ r e (record { some = some; ranged = ranged; small = small_is; semi_static = λ x w. refl })
 
   module _ (n : Ok tt ≡ assigned_ground m) where
-    parts : (ltb m.admin 64 ≡ true) × (((sized m.size).fits && is_some m.names) ≡ true)
-    parts = and_parts (ltb m.admin 64) ((sized m.size).fits && is_some m.names) (judged_fine _ _ true n).0
+    parts : (ltb m.admin measures.roles ≡ true) × (((sized m.size).fits && is_some m.names) ≡ true)
+    parts = and_parts (ltb m.admin measures.roles) ((sized m.size).fits && is_some m.names) (judged_fine _ _ true n).0
 
-    pub admin_small : m.admin < 64
-    admin_small = ltb-true m.admin 64 parts.0
+    pub admin_small : m.admin < measures.roles
+    admin_small = ltb-true m.admin measures.roles parts.0
 
     pub names_fit : is_some m.names ≡ true
     names_fit = (and_parts (sized m.size).fits (is_some m.names) parts.1).1
@@ -206,7 +207,7 @@ module _ (s : List ℕ) (m : Assigned) (h : Assigns s (Some m)) where
     conditioned : (r : Option (Option Nodes)) → Conditions m.condition.now m.size r → (x : Assigning) → Says assigns s x → (tree : Option Nodes) × (r ≡ Some tree) × TreeOf x.clause tree
     conditioned r b x w =
         let o = every x w in
-        b x.clause (codes " :" ++ entries 114 (roles_in x.row)) o.here w.1.2 (record { no_and = refl; no_or = refl; no_digit = refl }) o.size
+        b x.clause (codes " :" ++ entry_bytes 114 (roles_in x.row)) o.here w.1.2 (record { no_and = refl; no_or = refl; no_digit = refl }) o.size
         (sym (size_ranged x.clause) ∙ ap (λ z. (sized z).fits) (sym o.size) ∙ (and_parts (sized m.size).fits (is_some m.names) parts.1).0)
         (small_is x w ∙ (judged_fine _ _ true n).1)
 

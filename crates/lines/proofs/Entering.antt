@@ -2,9 +2,9 @@
 use Rattle.std.proofs.Common.{◌≡◌, ℕ, ◌+◌, ◌<◌, Bool, true, false, cond, eqb, List, [], ◌∷◌, ◌++◌, length, decimal, sym, refl, ap, ◌∙◌, arith, length-append, eq-eqb, eqb-true}
 use borrow.Author.Tests.{clash}
 use Rattle.std.proofs.lemmas.Bool.{cond-true, cond-false}
-use Rattle.grammar.specs.Text.{begins, begins_digit, is_nil, Read, got, none, number}
+use Rattle.grammar.specs.Text.{number_limit, begins, begins_digit, is_nil, Read, got, none, number}
 use Rattle.grammar.proofs.Numbers.{number_written, number_read}
-use Rattle.lines.specs.Entries.{entries, after, entry_at}
+use Rattle.lines.specs.Entries.{after, entry_at, entry_bytes}
 
 after_take : (c : ℕ) (s s1 : List ℕ) (f : List ℕ → Read) → s ≡ c ∷ s1 → after c s f ≡ f s1
 after_take c s s1 f e = ap (λ l. after c l f) e ∙ cond-true (eqb c c) (f s1) none (eq-eqb c c refl)
@@ -34,11 +34,11 @@ pub entry_number : (c : ℕ) (s s1 s2 : List ℕ) → s ≡ 32 ∷ s1 → s1 ≡
 unfolding entry_at
 entry_number c s s1 s2 e f = after_take 32 s s1 (λ s1. after c s1 number) e ∙ after_take c s1 s2 number f
 
-pub entry_written : (c n : ℕ) (x : List ℕ) → n < 100000 → begins_digit x ≡ false → entry_at c (32 ∷ c ∷ (decimal n ++ x)) ≡ got n x
+pub entry_written : (c n : ℕ) (x : List ℕ) → n < number_limit → begins_digit x ≡ false → entry_at c (32 ∷ c ∷ (decimal n ++ x)) ≡ got n x
 unfolding entry_at
 entry_written c n x h e = after_take c (c ∷ (decimal n ++ x)) (decimal n ++ x) number refl ∙ number_written n x h e
 
-pub entry_read : (c : ℕ) (s x : List ℕ) (n : ℕ) → entry_at c s ≡ got n x → (s ≡ 32 ∷ c ∷ (decimal n ++ x)) × (n < 100000)
+pub entry_read : (c : ℕ) (s x : List ℕ) (n : ℕ) → entry_at c s ≡ got n x → (s ≡ 32 ∷ c ∷ (decimal n ++ x)) × (n < number_limit)
 unfolding entry_at
 entry_read c s x n e =
     let a = after_got 32 s x n (λ s1. after c s1 number) e in
@@ -49,7 +49,7 @@ entry_read c s x n e =
 pub entry_less : (c : ℕ) (s x : List ℕ) (n : ℕ) → entry_at c s ≡ got n x → length x < length s
 entry_less c s x n e = let r = ap length (entry_read c s x n e).0 in let a : length (decimal n ++ x) ≡ length (decimal n) + length x = length-append (decimal n) x in omega arith
 
-pub entries_first : (c : ℕ) (ns : List ℕ) → begins_digit (entries c ns) ≡ false
+pub entries_first : (c : ℕ) (ns : List ℕ) → begins_digit (entry_bytes c ns) ≡ false
 entries_first c [] = refl
 entries_first c (n ∷ ns) = refl
 

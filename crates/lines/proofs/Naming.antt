@@ -3,6 +3,7 @@ use Rattle.std.proofs.Common.{◌≡◌, ℕ, ◌<◌, ◌≤◌, Bool, true, fa
 use mathlib.Core.Path.{fun_ext}
 use Rattle.std.proofs.lemmas.Bool.{lt-ltb, le-ltb, cases_eq}
 use Rattle.std.specs.Option.{is_some}
+use Rattle.meaning.specs.Measures as measures
 use Rattle.words.specs.Words.{with}
 use Rattle.rbac.specs.declared.sets.RoleSet.{RoleSet}
 use Rattle.rbac.specs.Roles.{roles_of, no_role}
@@ -60,22 +61,22 @@ no_and true = refl
 no_and false = refl
 
 -- a list with one role more that is in range, and with one that is not
-pub note_role : (v : Names) (ns : List ℕ) (n m : ℕ) (s : RoleSet) (c : Bool) → Noted (Some v) ns → m ≡ n → m < 64 → roles_of s ≡ with (roles_of v.roles) m → c ≡ roles_of v.roles m →
+pub note_role : (v : Names) (ns : List ℕ) (n m : ℕ) (s : RoleSet) (c : Bool) → Noted (Some v) ns → m ≡ n → m < measures.roles → roles_of s ≡ with (roles_of v.roles) m → c ≡ roles_of v.roles m →
     Noted (Some (record { roles = s; twice = v.twice || c })) (ns ++ n ∷ [])
 note_role v ns n m s c (b, h) q lt e f = subst (λ k. Noted (Some (record { roles = s; twice = v.twice || c })) (ns ++ k ∷ [])) q (
-  below_more 64 ns m ∙ ap₂ ◌&&◌ b (lt-ltb m 64 lt),
+  below_more measures.roles ns m ∙ ap₂ ◌&&◌ b (lt-ltb m measures.roles lt),
   record {
     set = e ∙ fun_ext (λ k. ap (λ g. g k || eqb k m) h.set ∙ sym (named_more ns m k));
     twice = ap₂ ◌||◌ h.twice (f ∙ ap (λ g. g m) h.set) ∙ sym (repeats_more ns m);
   },
 )
 
-pub note_none : (ns : List ℕ) (n : ℕ) → 64 ≤ n → Noted None (ns ++ n ∷ [])
-note_none ns n le = below_more 64 ns n ∙ ap (λ b. all_below 64 ns && b) (le-ltb n 64 le) ∙ no_and (all_below 64 ns)
+pub note_none : (ns : List ℕ) (n : ℕ) → measures.roles ≤ n → Noted None (ns ++ n ∷ [])
+note_none ns n le = below_more measures.roles ns n ∙ ap (λ b. all_below measures.roles ns && b) (le-ltb n measures.roles le) ∙ no_and (all_below measures.roles ns)
 
 -- a list with one role more, of which nothing is noted where nothing was
 pub note_more : (o r : Option Names) (ns : List ℕ) (n : ℕ) → Noted o ns → MatchOption o (r ≡ None) (λ v. (ms : List ℕ) → Noted (Some v) ms → Noted r (ms ++ n ∷ [])) → Noted r (ns ++ n ∷ [])
-note_more None r ns n h e = subst (λ x. Noted x (ns ++ n ∷ [])) (sym e) (below_more 64 ns n ∙ ap (λ b. b && ltb n 64) h)
+note_more None r ns n h e = subst (λ x. Noted x (ns ++ n ∷ [])) (sym e) (below_more measures.roles ns n ∙ ap (λ b. b && ltb n measures.roles) h)
 note_more (Some v) r ns n h f = f ns h
 
 -- before the first
@@ -83,6 +84,6 @@ pub note_start : (s : RoleSet) → roles_of s ≡ no_role → Noted (Some (recor
 note_start s e = (refl, record { set = e; twice = refl })
 
 -- whether anything was noted tells whether each is in range
-pub noted_fits : (o : Option Names) (ns : List ℕ) → Noted o ns → is_some o ≡ all_below 64 ns
+pub noted_fits : (o : Option Names) (ns : List ℕ) → Noted o ns → is_some o ≡ all_below measures.roles ns
 noted_fits None ns h = sym h
 noted_fits (Some v) ns h = sym h.0

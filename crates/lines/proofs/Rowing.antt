@@ -3,17 +3,18 @@ use Rattle.std.proofs.Common.{◌≡◌, ℕ, ◌<◌, ◌≤◌, Bool, true, fa
 use borrow.Author.Tests.{clash}
 use Rattle.std.proofs.lemmas.Bool.{lt-ltb, le-ltb}
 use Rattle.std.specs.Option.{is_some}
+use Rattle.meaning.specs.Measures as measures
 use Rattle.grammar.specs.Text.{begins_digit, got, none, Takes}
 use Rattle.grammar.specs.declared.grounds.Ground.TheVariants.{Syntax, Range}
 use Rattle.rbac.specs.declared.roles.Role.{Role}
 use Rattle.rbac.specs.declared.permissions.Permission.{Permission}
 use Rattle.lines.specs.declared.parts.Names.{Names}
 use Rattle.lines.specs.declared.change.Extra.{Extra}
-use Rattle.lines.specs.Entries.{entries, entry_at}
+use Rattle.lines.specs.Entries.{entry_at, entry_bytes}
 use Rattle.lines.specs.Lists.{Noted, Listed, Users, in_range}
 use Rattle.lines.specs.Languages.{Says, Least}
 use Rattle.lines.specs.Bodies as B
-use Rattle.lines.specs.Bodies.{Row, roles_in, rows, users_in, trusts}
+use Rattle.lines.specs.Bodies.{roles_in, users_in, trusts, RoleListing, role_listings}
 use Rattle.lines.specs.Readings.{RowRead, TrustRead}
 use Rattle.lines.proofs.Entering.{entry_written, entry_read}
 use Rattle.lines.proofs.Naming.{no_and, noted_fits}
@@ -32,44 +33,44 @@ pub got_is : (m n : ℕ) (x y : List ℕ) → got m x ≡ got n y → (m ≡ n) 
 got_is m n x y e = (cc, cc)
 
 -- what follows the number is no digit
-middle : (between : List ℕ) (n : ℕ) (ns : List ℕ) → begins_digit between ≡ false → begins_digit (between ++ entries 114 (n ∷ ns)) ≡ false
+middle : (between : List ℕ) (n : ℕ) (ns : List ℕ) → begins_digit between ≡ false → begins_digit (between ++ entry_bytes 114 (n ∷ ns)) ≡ false
 middle [] n ns e = refl
 middle (b ∷ bs) n ns e = e
 
 module _ (letter limit : ℕ) (between s : List ℕ) (ok : begins_digit between ≡ false) where
   -- the number of a row that the text is
-  row_number : (x : Row) → Says (rows letter limit between) s x → entry_at letter s ≡ got x.subject (between ++ entries 114 (roles_in x))
-  row_number x w = ap (entry_at letter) w.0 ∙ entry_written letter x.subject (between ++ entries 114 (roles_in x)) w.1.0 (middle between x.first x.more ok)
+  row_number : (x : RoleListing) → Says (role_listings letter limit between) s x → entry_at letter s ≡ got x.subject (between ++ entry_bytes 114 (roles_in x))
+  row_number x w = ap (entry_at letter) w.0 ∙ entry_written letter x.subject (between ++ entry_bytes 114 (roles_in x)) w.1.0 (middle between x.first x.more ok)
 
-  pub row_no_number : entry_at letter s ≡ none → Least (rows letter limit between) s Syntax
-  row_no_number e = syntax_least (rows letter limit between) s (λ x w. none_got _ _ (sym e ∙ row_number x w))
+  pub row_no_number : entry_at letter s ≡ none → Least (role_listings letter limit between) s Syntax
+  row_no_number e = syntax_least (role_listings letter limit between) s (λ x w. none_got _ _ (sym e ∙ row_number x w))
 
   module _ (n : ℕ) (s1 : List ℕ) (e : entry_at letter s ≡ got n s1) where
-    parts : (x : Row) → Says (rows letter limit between) s x → (n ≡ x.subject) × (s1 ≡ between ++ entries 114 (roles_in x))
+    parts : (x : RoleListing) → Says (role_listings letter limit between) s x → (n ≡ x.subject) × (s1 ≡ between ++ entry_bytes 114 (roles_in x))
     parts x w = got_is _ _ _ _ (sym e ∙ row_number x w)
 
-    pub row_no_middle : (s2 : List ℕ) → Takes between s1 false s2 → Least (rows letter limit between) s Syntax
-    row_no_middle s2 t = syntax_least (rows letter limit between) s (λ x w. clash (t.found (entries 114 (roles_in x)) (parts x w).1).0)
+    pub row_no_middle : (s2 : List ℕ) → Takes between s1 false s2 → Least (role_listings letter limit between) s Syntax
+    row_no_middle s2 t = syntax_least (role_listings letter limit between) s (λ x w. clash (t.found (entry_bytes 114 (roles_in x)) (parts x w).1).0)
 
     module _ (s2 : List ℕ) (t : Takes between s1 true s2) where
-      pub row_no_roles : Listed 114 Noted s2 None → Least (rows letter limit between) s Syntax
-      row_no_roles l = syntax_least (rows letter limit between) s (λ x w.
-          let h = l.found x.first x.more (t.found (entries 114 (roles_in x)) (parts x w).1).1 w.1.1 in
+      pub row_no_roles : Listed 114 Noted s2 None → Least (role_listings letter limit between) s Syntax
+      row_no_roles l = syntax_least (role_listings letter limit between) s (λ x w.
+          let h = l.found x.first x.more (t.found (entry_bytes 114 (roles_in x)) (parts x w).1).1 w.1.1 in
           no_some h.0 h.1)
 
       module _ (o : Option Names) (l : Listed 114 Noted s2 (Some o)) where
-        every : (x : Row) → Says (rows letter limit between) s x → Noted o (roles_in x)
+        every : (x : RoleListing) → Says (role_listings letter limit between) s x → Noted o (roles_in x)
         every x w =
-            let h = l.found x.first x.more (t.found (entries 114 (roles_in x)) (parts x w).1).1 w.1.1 in
+            let h = l.found x.first x.more (t.found (entry_bytes 114 (roles_in x)) (parts x w).1).1 w.1.1 in
             subst (λ u. Noted u (roles_in x)) (sym (some_is _ _ h.1)) h.2
 
-        some : (x : Row) × Says (rows letter limit between) s x
+        some : (x : RoleListing) × Says (role_listings letter limit between) s x
         some =
             let h = l.real o refl in
             let r = entry_read letter s s1 n e in
             (record { subject = n; first = h.0; more = h.1 }, (r.0 ∙ ap (λ y. 32 ∷ letter ∷ (decimal n ++ y)) (t.real refl ∙ ap (λ y. between ++ y) h.2), (r.1, h.3)))
 
-        weighed : (a : Bool) → (ltb n limit && is_some o) ≡ a → Weighed (rows letter limit between) s a true true
+        weighed : (a : Bool) → (ltb n limit && is_some o) ≡ a → Weighed (role_listings letter limit between) s a true true
         weighed a q = record {
           some = some;
           ranged = λ x w. ap₂ ◌&&◌ (ap (λ n. ltb n limit) (sym (parts x w).0)) (sym (noted_fits o (roles_in x) (every x w))) ∙ q;
@@ -77,24 +78,24 @@ module _ (letter limit : ℕ) (between s : List ℕ) (ok : begins_digit between 
           semi_static = λ x w. refl;
         }
 
-        pub row_range_number : limit ≤ n → Least (rows letter limit between) s Range
-        row_range_number le = verdict (rows letter limit between) s false true true (weighed false (ap (λ b. b && is_some o) (le-ltb n limit le)))
+        pub row_range_number : limit ≤ n → Least (role_listings letter limit between) s Range
+        row_range_number le = verdict (role_listings letter limit between) s false true true (weighed false (ap (λ b. b && is_some o) (le-ltb n limit le)))
 
-      pub row_range_roles : Listed 114 Noted s2 (Some None) → Least (rows letter limit between) s Range
-      row_range_roles l = verdict (rows letter limit between) s false true true (weighed None l false (no_and (ltb n limit)))
+      pub row_range_roles : Listed 114 Noted s2 (Some None) → Least (role_listings letter limit between) s Range
+      row_range_roles l = verdict (role_listings letter limit between) s false true true (weighed None l false (no_and (ltb n limit)))
 
       pub row_read : (v : Names) → Listed 114 Noted s2 (Some (Some v)) → {N : Type 0} (of : N → ℕ) (m : N) → (of m ≡ n) × (n < limit) → RowRead letter limit between s of (Ok (record { subject = m; names = v }))
       row_read v l of m k = (
-        verdict (rows letter limit between) s true true true (weighed (Some v) l true (ap (λ b. b && true) (lt-ltb n limit k.1))),
-        told (rows letter limit between) s (some (Some v) l) (λ x w. record { subject_is = k.0 ∙ (parts x w).0; names = (every (Some v) l x w).1 }),
+        verdict (role_listings letter limit between) s true true true (weighed (Some v) l true (ap (λ b. b && true) (lt-ltb n limit k.1))),
+        told (role_listings letter limit between) s (some (Some v) l) (λ x w. record { subject_is = k.0 ∙ (parts x w).0; names = (every (Some v) l x w).1 }),
       )
 
 -- a role and a permission are of a number below their limit
-pub makes_role : (k : ℕ) (o : Option Role) → MatchOption o (64 ≤ k) (λ r. r.number ≡ k) → MatchOption o (64 ≤ k) (λ r. (r.number ≡ k) × (k < 64))
+pub makes_role : (k : ℕ) (o : Option Role) → MatchOption o (measures.roles ≤ k) (λ r. r.number ≡ k) → MatchOption o (measures.roles ≤ k) (λ r. (r.number ≡ k) × (k < measures.roles))
 makes_role k None h = h
 makes_role k (Some r) h = let s = r.small in (h, omega arith)
 
-pub makes_permission : (k : ℕ) (o : Option Permission) → MatchOption o (32 ≤ k) (λ p. p.number ≡ k) → MatchOption o (32 ≤ k) (λ p. (p.number ≡ k) × (k < 32))
+pub makes_permission : (k : ℕ) (o : Option Permission) → MatchOption o (measures.permissions ≤ k) (λ p. p.number ≡ k) → MatchOption o (measures.permissions ≤ k) (λ p. (p.number ≡ k) × (k < measures.permissions))
 makes_permission k None h = h
 makes_permission k (Some p) h = let s = p.small in (h, omega arith)
 

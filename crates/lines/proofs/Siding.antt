@@ -4,6 +4,7 @@ use borrow.Author.Tests.{clash}
 use Rattle.std.specs.Option.{ok_or}
 use Rattle.std.proofs.lemmas.List.{append-nil}
 use Rattle.std.proofs.lemmas.Bool.{and_parts}
+use Rattle.meaning.specs.Measures as measures
 use Rattle.meaning.specs.Sets.{UserSet, members, holders, only, nobody, union, intersection}
 use Rattle.grammar.specs.declared.sizes.Size.{Size}
 use Rattle.grammar.specs.declared.grounds.Ground.{Ground}
@@ -15,11 +16,11 @@ use Rattle.trees.specs.Reading.{Nodes, Built, NodesOf, Small}
 use Rattle.lines.specs.declared.parts.Sizes.{Sizes}
 use Rattle.lines.specs.declared.change.Extra.{Extra}
 use Rattle.lines.specs.Languages.{Says, Least}
-use Rattle.lines.specs.Bodies.{Sides, sides}
-use Rattle.lines.specs.Lines.{Sided}
+use Rattle.lines.specs.Bodies.{deepest, Sides, sides}
 use Rattle.lines.specs.Readings.{sizes_of, Measures, weighed, Builds, TwoSides}
 use Rattle.lines.proofs.Judging.{Verdict, syntax_least, verdict_is, judged_fine, told}
 use Rattle.lines.proofs.Rowing.{some_is, no_some}
+use Rattle.lines.specs.Changes.{Sided}
 
 abbrev between : List ℕ
 between = codes " >= "
@@ -38,7 +39,7 @@ module _ (s : List ℕ) (x : Sides) (w : Says sides s x) where
   pub left_scanned : (s1 : List ℕ) → s ≡ 32 ∷ s1 → (r : Option Size) (s2 : List ℕ) → Scanned s1 r s2 → (r ≡ Some (size_of x.larger)) × (s2 ≡ between ++ render x.smaller)
   left_scanned s1 e r s2 k = k.found x.larger (between ++ render x.smaller) (left_written s1 e) (record { no_and = refl; no_or = refl; no_digit = refl })
 
-  pub left_built : (s1 : List ℕ) → s ≡ 32 ∷ s1 → (r : Option Nodes) (s2 : List ℕ) → Built 8 s1 r s2 → Small 8 x.larger → NodesOf (meaning x.larger) (between ++ render x.smaller) r s2
+  pub left_built : (s1 : List ℕ) → s ≡ 32 ∷ s1 → (r : Option Nodes) (s2 : List ℕ) → Built deepest s1 r s2 → Small deepest x.larger → NodesOf (meaning x.larger) (between ++ render x.smaller) r s2
   left_built s1 e r s2 k g = k x.larger (between ++ render x.smaller) (left_written s1 e) (record { no_and = refl; no_or = refl; no_digit = refl }) g
 
   right_written : (s3 : List ℕ) → s3 ≡ render x.smaller → Written s3 x.smaller []
@@ -47,7 +48,7 @@ module _ (s : List ℕ) (x : Sides) (w : Says sides s x) where
   pub right_scanned : (s3 : List ℕ) → s3 ≡ render x.smaller → (r : Option Size) (s4 : List ℕ) → Scanned s3 r s4 → (r ≡ Some (size_of x.smaller)) × (s4 ≡ [])
   right_scanned s3 e r s4 k = k.found x.smaller [] (right_written s3 e) (record { no_and = refl; no_or = refl; no_digit = refl })
 
-  pub right_built : (s3 : List ℕ) → s3 ≡ render x.smaller → (r : Option Nodes) (s4 : List ℕ) → Built 8 s3 r s4 → Small 8 x.smaller → NodesOf (meaning x.smaller) [] r s4
+  pub right_built : (s3 : List ℕ) → s3 ≡ render x.smaller → (r : Option Nodes) (s4 : List ℕ) → Built deepest s3 r s4 → Small deepest x.smaller → NodesOf (meaning x.smaller) [] r s4
   right_built s3 e r s4 k g = k x.smaller [] (right_written s3 e) (record { no_and = refl; no_or = refl; no_digit = refl }) g
 
 -- how far a text was measured
@@ -118,19 +119,19 @@ module _ (s : List ℕ) (m : Sizes) (h : Measures s (Some m)) where
   two_verdict r e = verdict_is sides s _ _ _ r e (record {
     some = let f = h.real m refl in (f.0, f.1);
     ranged = λ x w. ap (λ (z : Sizes). z.left.fits && z.right.fits) (sym (is_it x w));
-    small = λ x w. ap (λ (z : Sizes). leb (z.left.operands + z.right.operands) 32 && leb (max z.left.levels z.right.levels) 8) (sym (is_it x w));
+    small = λ x w. ap (λ (z : Sizes). leb (z.left.operands + z.right.operands) measures.question_operands && leb (max z.left.levels z.right.levels) deepest) (sym (is_it x w));
     semi_static = λ x w. ap (λ (z : Sizes). z.left.fixed || z.right.fixed) (sym (is_it x w));
   })
 
-  two_small : Ok tt ≡ weighed m → (x : Sides) → Says sides s x → (Small 8 x.larger) × (Small 8 x.smaller)
+  two_small : Ok tt ≡ weighed m → (x : Sides) → Says sides s x → (Small deepest x.larger) × (Small deepest x.smaller)
   two_small e x w =
       let i = is_it x w in
       let f = judged_fine _ _ _ e in
       let p = and_parts (in_range (meaning x.larger)) (in_range (meaning x.smaller)) (sym (ap (λ (z : Sizes). z.left.fits && z.right.fits) i) ∙ f.0) in
-      let q = and_parts (leb (operands (meaning x.larger) + operands (meaning x.smaller)) 32) (leb (max (levels x.larger) (levels x.smaller)) 8)
-      (sym (ap (λ (z : Sizes). leb (z.left.operands + z.right.operands) 32 && leb (max z.left.levels z.right.levels) 8) i) ∙ f.1) in
-      let o : operands (meaning x.larger) + operands (meaning x.smaller) ≤ 32 = leb-true _ _ q.0 in
-      let l : max (levels x.larger) (levels x.smaller) ≤ 8 = leb-true _ _ q.1 in
+      let q = and_parts (leb (operands (meaning x.larger) + operands (meaning x.smaller)) measures.question_operands) (leb (max (levels x.larger) (levels x.smaller)) deepest)
+      (sym (ap (λ (z : Sizes). leb (z.left.operands + z.right.operands) measures.question_operands && leb (max z.left.levels z.right.levels) deepest) i) ∙ f.1) in
+      let o : operands (meaning x.larger) + operands (meaning x.smaller) ≤ measures.question_operands = leb-true _ _ q.0 in
+      let l : max (levels x.larger) (levels x.smaller) ≤ deepest = leb-true _ _ q.1 in
       let u = some_operand (meaning x.larger) in
       let v = some_operand (meaning x.smaller) in
       (record { range = p.0; deep = omega arith; many = omega arith }, record { range = p.1; deep = omega arith; many = omega arith })

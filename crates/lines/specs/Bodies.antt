@@ -3,8 +3,9 @@ use Rattle.std.specs.Prelude.{◌≡◌, ℕ, ◌+◌, ◌<◌, max, Bool, true,
 use Rattle.meaning.specs.Measures as measures
 use Rattle.meaning.specs.Rules.{Condition, everybody}
 use Rattle.meaning.specs.Sets.{Question, as_condition}
+use Rattle.grammar.specs.Text.{number_limit}
 use Rattle.grammar.specs.Phrase.{set, Phrase, render, meaning, levels, operands, in_range, static, roles_alone, Short}
-use Rattle.lines.specs.Entries.{entries, AllShort, all_below}
+use Rattle.lines.specs.Entries.{AllShort, all_below, entry_bytes}
 use Rattle.lines.specs.Languages.{Language}
 
 -- parentheses nest at most so deep
@@ -12,20 +13,20 @@ abbrev pub deepest : ℕ
 deepest = 8
 
 -- a number, and one or more roles
-pub record Row : Type 0 where
+pub record RoleListing : Type 0 where
   pub subject : ℕ
   pub first : ℕ
   pub more : List ℕ
 
-abbrev pub roles_in : Row → List ℕ
+abbrev pub roles_in : RoleListing → List ℕ
 roles_in x = x.first ∷ x.more
 
 -- the number follows a blank and its letter; some bytes stand before the roles
-abbrev pub rows : (letter limit : ℕ) → List ℕ → Language
-rows letter limit between = record {
-  Form = Row;
-  bytes = λ x. 32 ∷ letter ∷ (decimal x.subject ++ (between ++ entries 114 (roles_in x)));
-  proper = λ x. (x.subject < 100000) × AllShort (roles_in x);
+abbrev pub role_listings : (letter limit : ℕ) → List ℕ → Language
+role_listings letter limit between = record {
+  Form = RoleListing;
+  bytes = λ x. 32 ∷ letter ∷ (decimal x.subject ++ (between ++ entry_bytes 114 (roles_in x)));
+  proper = λ x. (x.subject < number_limit) × AllShort (roles_in x);
   ranged = λ x. nat_lt x.subject limit && all_below measures.roles (roles_in x);
   small = λ x. true;
   semi_static = λ x. true;
@@ -42,7 +43,7 @@ users_in x = x.first ∷ x.more
 abbrev pub trusts : Language
 trusts = record {
   Form = Users;
-  bytes = λ x. entries 117 (users_in x);
+  bytes = λ x. entry_bytes 117 (users_in x);
   proper = λ x. AllShort (users_in x);
   ranged = λ x. all_below measures.users (users_in x);
   small = λ x. true;
@@ -77,14 +78,14 @@ condition (in_set p) = as_condition (meaning p)
 
 -- an administering role, a condition, and one or more targets
 pub record Assigning : Type 0 where
-  pub row : Row
+  pub row : RoleListing
   pub clause : Clause
 
 abbrev pub assigns : Language
 assigns = record {
   Form = Assigning;
-  bytes = λ x. 32 ∷ 114 ∷ (decimal x.row.subject ++ (codes " : " ++ (clause_bytes x.clause ++ (codes " :" ++ entries 114 (roles_in x.row)))));
-  proper = λ x. (x.row.subject < 100000) × (AllShort (roles_in x.row)) × ProperClause x.clause;
+  bytes = λ x. 32 ∷ 114 ∷ (decimal x.row.subject ++ (codes " : " ++ (clause_bytes x.clause ++ (codes " :" ++ entry_bytes 114 (roles_in x.row)))));
+  proper = λ x. (x.row.subject < number_limit) × (AllShort (roles_in x.row)) × ProperClause x.clause;
   ranged = λ x. nat_lt x.row.subject measures.roles && (clause_ranged x.clause && all_below measures.roles (roles_in x.row));
   small = λ x. clause_small x.clause;
   semi_static = λ x. true;

@@ -1,17 +1,17 @@
 -- Lists of numbers in a line: how they are written, and what they name.
 use Rattle.std.specs.Prelude.{ℕ, ◌<◌, Bool, true, false, cond, ◌&&◌, ◌||◌, List, [], ◌∷◌, ◌++◌, decimal, ◌==◌, nat_lt}
 use Rattle.meaning.specs.Lists.{listed as named}
-use Rattle.grammar.specs.Text.{Read, none, number}
+use Rattle.grammar.specs.Text.{number_limit, Read, none, number}
 
 -- each entry is a blank, a letter and a number
-abbrev pub entries : ℕ → List ℕ → List ℕ
-entries c [] = []
-entries c (n ∷ ns) = 32 ∷ c ∷ (decimal n ++ entries c ns)
+abbrev pub entry_bytes : ℕ → List ℕ → List ℕ
+entry_bytes c [] = []
+entry_bytes c (n ∷ ns) = 32 ∷ c ∷ (decimal n ++ entry_bytes c ns)
 
--- every number has at most five digits
+-- every number is short enough to be written
 abbrev pub AllShort : List ℕ → Type 0
 AllShort [] = Unit {0}
-AllShort (n ∷ ns) = (n < 100000) × AllShort ns
+AllShort (n ∷ ns) = (n < number_limit) × AllShort ns
 
 -- every number is below the limit
 abbrev pub all_below : ℕ → List ℕ → Bool

@@ -3,5 +3,6 @@ pub mod Lists
 pub mod Languages
 pub mod Bodies
 pub mod Lines
+pub mod Changes
 pub mod Readings
 pub mod Clauses

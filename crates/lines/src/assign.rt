@@ -2,8 +2,8 @@
 ghost use Rattle.std.specs.Prelude.{◌≡◌};
 ghost use Rattle.grammar.specs.Text.{rest};
 ghost use Rattle.lines.specs.declared.keyword.Keyword.TheVariants.{Assign};
-ghost use Rattle.lines.specs.Lines.{Body};
 ghost use Rattle.lines.specs.Clauses.{Clauses, Conditions, Assigns, assigned_ground};
+ghost use Rattle.lines.specs.Changes.{Body};
 
 use crate::change::{Change, Extra};
 use crate::lists::{entry, roles};

@@ -1,9 +1,9 @@
 use bounded::Bounded;
-use meaning::TRUSTED_USERS;
+use meaning::{TRUSTED_USERS, USERS};
 use rbac::{Permission, Role, RoleSet, User};
 use trees::Nodes;
 
-// What one line of a board names, by its kind; its trusted users and its trees lie beside it.
+/// What one line of a board names, by its kind; its trusted users and its trees lie beside it.
 #[derive(Clone, Copy, PartialEq, Eq, Debug)]
 pub enum Change {
     Ua {
@@ -32,11 +32,11 @@ pub enum Change {
 }
 
 // One bit for each user.
-pub(crate) const USER_WORDS: usize = 1024;
+pub(crate) const USER_WORDS: usize = USERS / 64;
 
-// What is lent beside a change: how many users a `trust` line names, the first 32 of them and, one bit for each, all of
-// them; whether the line's list names an entry twice; the tree of a condition, which is none where it is `true`; and the
-// trees of two sides.
+/// What is lent beside a change: how many users a `trust` line names, the first 32 of them and, one bit for each, all of
+/// them; whether the line's list names an entry twice; the tree of a condition, which is none where it is `true`; and the
+/// trees of two sides.
 #[derive(Clone, Copy)]
 pub struct Extra {
     pub trusted: Bounded<User, TRUSTED_USERS>,

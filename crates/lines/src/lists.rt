@@ -1,9 +1,9 @@
 // Lists of roles and of users that end a line.
 ghost use Rattle.std.specs.Prelude.{◌≡◌, ℕ, ◌+◌, ◌<◌, ◌≤◌, min, Bool, false, ◌&&◌, List, [], ◌∷◌, ◌++◌, length, take, Option, Some, None, MatchOption};
 ghost use Rattle.bounded.specs.Entries.{entries as kept};
-ghost use Rattle.meaning.specs.Measures.{users as all_users};
+ghost use Rattle.meaning.specs.Measures.{users as all_users, trusted_users};
 ghost use Rattle.grammar.specs.Text.{rest, taken};
-ghost use Rattle.trees.specs.Reading.{Nodes as Tree, listed};
+ghost use Rattle.trees.specs.Reading.{Nodes as Tree, nodes_in};
 ghost use Rattle.lines.specs.Entries.{entry_at};
 ghost use Rattle.lines.specs.Lists.{Noted, Listed, Seen, in_range};
 ghost use Rattle.lines.specs.Readings.{TrustRead};
@@ -16,7 +16,7 @@ use rbac::{Role, RoleSet, User};
 use trees::no_nodes;
 use words::{has, put};
 
-// A blank, a letter and a number.
+/// A blank, a letter and a number.
 pub fn entry(r: &mut Reader, letter: u8) -> Option<u32>
     ensures read { entry_at letter (rest r.old) ≡ taken result (rest r.new) }
 {
@@ -40,9 +40,9 @@ impl Names {
     }
 }
 
-// The roles of a list that goes on to the end of the text, and of these none where one is out of range. Such a role
-// doesn't end the list: a fault in how the rest is written is refused first, so that all of it is read. An Option in an
-// Option: whether it is a list, and whether its roles are in range; a row and an assign rule rank the two apart.
+/// The roles of a list that goes on to the end of the text, and of these none where one is out of range. Such a role
+/// doesn't end the list: a fault in how the rest is written is refused first, so that all of it is read. An Option in an
+/// Option: whether it is a list, and whether its roles are in range; a row and an assign rule rank the two apart.
 pub fn roles(r: &mut Reader) -> Option<Option<Names>>
     ensures read { Listed 114 Noted (rest r.old) result }
 {
@@ -61,14 +61,14 @@ pub fn roles(r: &mut Reader) -> Option<Option<Names>>
 }
 
 impl Extra {
-    // Nothing beside a change.
+    /// Nothing beside a change.
     pub fn new() -> Extra
         ensures trusted { kept result.trusted ≡ [] }
         ensures many { result.many ≡ 0 }
         ensures twice { result.twice ≡ false }
-        ensures condition { (tree : Tree) × (result.condition ≡ Some tree) × (listed tree ≡ []) }
-        ensures left { listed result.left ≡ [] }
-        ensures right { listed result.right ≡ [] }
+        ensures condition { (tree : Tree) × (result.condition ≡ Some tree) × (nodes_in tree ≡ []) }
+        ensures left { nodes_in result.left ≡ [] }
+        ensures right { nodes_in result.right ≡ [] }
     {
         Extra {
             trusted: Bounded::new(User::from(0)),
@@ -83,7 +83,7 @@ impl Extra {
 
     // Counts one more trusted user, and keeps it while there is a place.
     fn add(&mut self, user: User)
-        ensures trusted { kept self.new.trusted ≡ take 32 (kept self.old.trusted ++ user ∷ []) }
+        ensures trusted { kept self.new.trusted ≡ take trusted_users (kept self.old.trusted ++ user ∷ []) }
         ensures many { self.new.many ≡ min (self.old.many + 1) 18446744073709551615 }
         ensures twice { self.new.twice ≡ self.old.twice }
         ensures named { self.new.named ≡ self.old.named }
@@ -113,7 +113,7 @@ fn note(extra: &mut Extra, number: u32) -> Result<(), Ground>
     Ok(())
 }
 
-// The users of a list that goes on to the end of the text, into what lies beside the change.
+/// The users of a list that goes on to the end of the text, into what lies beside the change.
 pub fn users(r: &mut Reader, extra: &mut Extra) -> Result<(), Ground>
     ensures { TrustRead (rest r.old) result extra.new }
 {

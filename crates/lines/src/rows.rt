@@ -3,8 +3,8 @@
 ghost use Rattle.std.specs.Prelude.{◌≡◌, ℕ, false};
 ghost use Rattle.grammar.specs.Text.{rest, begins_digit};
 ghost use Rattle.lines.specs.declared.keyword.Keyword.TheVariants.{Ua, Pa, Rh, Trust, Revoke};
-ghost use Rattle.lines.specs.Lines.{Body};
 ghost use Rattle.lines.specs.Readings.{RowRead, Makes};
+ghost use Rattle.lines.specs.Changes.{Body};
 
 use crate::change::{Change, Extra};
 use crate::lists::{entry, roles, user, users};

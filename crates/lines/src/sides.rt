@@ -3,8 +3,8 @@ ghost use Rattle.std.specs.Prelude.{◌≡◌};
 ghost use Rattle.grammar.specs.Text.{rest};
 ghost use Rattle.lines.specs.declared.keyword.Keyword.TheVariants.{Always, Never};
 ghost use Rattle.lines.specs.Languages.{judged};
-ghost use Rattle.lines.specs.Lines.{Body};
 ghost use Rattle.lines.specs.Readings.{Measures, Builds, TwoSides, weighed};
+ghost use Rattle.lines.specs.Changes.{Body};
 
 use crate::change::{Change, Extra};
 use crate::parts::{LEVELS, Sizes};
@@ -46,7 +46,7 @@ fn build(r: &mut Reader, extra: &mut Extra) -> Option<()>
     Some(())
 }
 
-// Refuses a text of which these three are known by the ground of the smallest number.
+/// Refuses a text of which these three are known by the ground of the smallest number.
 pub fn judge(ranged: bool, small: bool, semi_static: bool) -> Result<(), Ground>
     ensures { result ≡ judged ranged small semi_static }
 {
@@ -74,7 +74,7 @@ fn weigh(m: Sizes) -> Result<(), Ground>
     )
 }
 
-// Reads the two sets into what lies beside the change.
+/// Reads the two sets into what lies beside the change.
 pub fn sides(r: &mut Reader, extra: &mut Extra) -> Result<(), Ground>
     ensures { TwoSides (rest r.old) result extra.new }
 {

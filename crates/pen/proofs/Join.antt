@@ -2,10 +2,10 @@
 use Rattle.std.proofs.Common.{◌≡◌, ℕ, suc, ◌+◌, ◌≤◌, min, Bool, true, false, cond, List, [], ◌∷◌, ◌++◌, length, drop, set, decimal, sym, refl, ap, ◌∙◌, subst, append_assoc, zero-add, arith, length-set}
 use Rattle.std.proofs.lemmas.List.Edits.{sets, sets-eq}
 use Rattle.std.proofs.lemmas.List.{append-nil}
-use Rattle.lines.specs.Entries.{entries}
 use Rattle.pen.specs.Ascending.{ascending}
 use Rattle.pen.specs.declared.writer.Writer.{Writer}
 use Rattle.pen.specs.Puts.{puts, count, next, Wrote, top}
+use Rattle.lines.specs.Entries.{entry_bytes}
 
 pub puts_append : (xs : List ℕ) (i : ℕ) (a b : List ℕ) → puts xs i (a ++ b) ≡ puts (puts xs i a) (count i a) b
 puts_append xs i [] b = refl
@@ -45,21 +45,21 @@ to u v a b e p = subst (λ l. Wrote u l v) e p
 
 -- a list in ascending order with one number more, or as it was
 module _ (c : ℕ) (f : ℕ → Bool) where
-  entries_more : (ms : List ℕ) (n : ℕ) → entries c ms ++ (32 ∷ c ∷ decimal n) ≡ entries c (ms ++ n ∷ [])
+  entries_more : (ms : List ℕ) (n : ℕ) → entry_bytes c ms ++ (32 ∷ c ∷ decimal n) ≡ entry_bytes c (ms ++ n ∷ [])
   entries_more [] n = ap (λ l. 32 ∷ c ∷ l) (sym (append-nil (decimal n)))
-  entries_more (m ∷ ms) n = ap (λ l. 32 ∷ c ∷ l) (append_assoc (decimal m) (entries c ms) (32 ∷ c ∷ decimal n) ∙ ap (λ l. decimal m ++ l) (entries_more ms n))
+  entries_more (m ∷ ms) n = ap (λ l. 32 ∷ c ∷ l) (append_assoc (decimal m) (entry_bytes c ms) (32 ∷ c ∷ decimal n) ∙ ap (λ l. decimal m ++ l) (entries_more ms n))
 
-  pub entry_first : (u : Writer) → Wrote u (entries c (ascending f 0)) u
+  pub entry_first : (u : Writer) → Wrote u (entry_bytes c (ascending f 0)) u
   unfolding ascending
   entry_first u = none u
 
-  pub entry_yes : (u v w : Writer) (k : ℕ) → f k ≡ true → Wrote u (entries c (ascending f k)) v → Wrote v (32 ∷ c ∷ decimal k) w → Wrote u (entries c (ascending f (suc k))) w
+  pub entry_yes : (u v w : Writer) (k : ℕ) → f k ≡ true → Wrote u (entry_bytes c (ascending f k)) v → Wrote v (32 ∷ c ∷ decimal k) w → Wrote u (entry_bytes c (ascending f (suc k))) w
   unfolding ascending
-  entry_yes u v w k h p q = to _ _ _ _ (entries_more (ascending f k) k ∙ ap (λ b. entries c (ascending f k ++ cond b (k ∷ []) [])) (sym h)) (join _ _ _ _ _ p q)
+  entry_yes u v w k h p q = to _ _ _ _ (entries_more (ascending f k) k ∙ ap (λ b. entry_bytes c (ascending f k ++ cond b (k ∷ []) [])) (sym h)) (join _ _ _ _ _ p q)
 
-  pub entry_no : (u v : Writer) (k : ℕ) → f k ≡ false → Wrote u (entries c (ascending f k)) v → Wrote u (entries c (ascending f (suc k))) v
+  pub entry_no : (u v : Writer) (k : ℕ) → f k ≡ false → Wrote u (entry_bytes c (ascending f k)) v → Wrote u (entry_bytes c (ascending f (suc k))) v
   unfolding ascending
-  entry_no u v k h p = to _ _ _ _ (ap (entries c) (sym (append-nil (ascending f k)) ∙ ap (λ b. ascending f k ++ cond b (k ∷ []) []) (sym h))) p
+  entry_no u v k h p = to _ _ _ _ (ap (entry_bytes c) (sym (append-nil (ascending f k)) ∙ ap (λ b. ascending f k ++ cond b (k ∷ []) []) (sym h))) p
 
 pub here : (u v w : Writer) (a : List ℕ) → v ≡ w → Wrote u a w → Wrote u a v
 here u v w a e p = subst (λ x. Wrote u a x) (sym e) p

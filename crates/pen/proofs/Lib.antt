@@ -1,4 +1,5 @@
 pub mod Join
 pub mod Naming
 pub mod Canonical
+pub mod Sets
 pub mod Shapes

@@ -1,18 +1,22 @@
--- The canonical text of a set where it stands.
+-- The canonical text of a set where it stands, and a set that was written so.
 use Rattle.std.specs.Prelude.{ℕ, List, [], ◌∷◌, ◌++◌, decimal}
 use Rattle.trees.specs.declared.nodes.Node.{Node}
 use Rattle.trees.specs.declared.nodes.Node.TheVariants.{Role, Permission, User, Nobody, Or, And}
 use Rattle.meaning.specs.Sets.{UserSet}
 use Rattle.grammar.specs.Phrase.{render}
-use Rattle.pen.specs.Canon.{as_set, as_term, as_factor}
+use Rattle.pen.specs.Canon.{as_phrase, Canonical}
+use Rattle.pen.specs.Puts.{Wrote}
 use Rattle.pen.specs.declared.spot.Spot.{Spot}
-use Rattle.pen.specs.declared.spot.Spot.TheVariants.{Set, Term, Factor}
+use Rattle.pen.specs.declared.writer.Writer.{Writer}
 
 -- the canonical text of a set at its spot
 abbrev pub written : Spot → UserSet → List ℕ
-written Set t = render (as_set t)
-written Term t = render (as_term t)
-written Factor t = render (as_factor t)
+written spot t = render (as_phrase spot t)
+
+-- from the writer v, with the set written at that spot, to the writer w: the canonical text, and what stands of it
+pub record WroteSet (spot : Spot) (t : UserSet) (v w : Writer) : Type 0 where
+  pub bytes : Wrote v (written spot t) w
+  pub canonical : Canonical spot t
 
 -- an operand's text
 abbrev pub leaf : Node → List ℕ

@@ -1,11 +1,10 @@
-// Sets in their canonical form: each user in its own braces, and only the parentheses that the reading needs.
+// Sets in their canonical form: each user in its own braces, and no pair of parentheses more than the set needs.
 ghost use Rattle.std.specs.Prelude.{◌≡◌, ◌+◌, ◌-◌, ◌≤◌, List, ◌∷◌, ◌++◌, length};
 ghost use Rattle.meaning.specs.Sets.{UserSet};
 ghost use Rattle.trees.specs.Reading.{postfix};
 ghost use Rattle.trees.specs.declared.nodes.Node.{Node as ANode};
 ghost use Rattle.pen.specs.Puts.{Wrote};
-ghost use Rattle.pen.specs.Texts.{written, leaf};
-ghost use Rattle.pen.specs.Canon.{Canonical, OneReading};
+ghost use Rattle.pen.specs.Texts.{written, leaf, WroteSet};
 
 use crate::spot::Spot;
 use crate::writer::Writer;
@@ -67,10 +66,12 @@ fn joined(w: &mut Writer, nodes: &[Node], left: Spot, sign: u8, right: Spot)
     write(w, &nodes[mid..], right);
 }
 
-// Writes the canonical text of the set whose nodes these are.
+/// Writes the canonical text of the set whose nodes these are. Each user stands in its own braces; nothing that says the set
+/// at that spot has fewer pairs of parentheses or fewer levels of them, and nothing else with users so written has as few
+/// pairs. Nodes that are no set's leave bytes of which nothing is said.
 #[cycle(joined_write)]
 pub fn write(w: &mut Writer, nodes: &[Node], spot: Spot)
-    ensures { (t : UserSet) → nodes.now ≡ postfix t → Wrote w.old (written spot t) w.new }
+    ensures { (t : UserSet) → nodes.now ≡ postfix t → WroteSet spot t w.old w.new }
 {
     let Some((node, operands)) = nodes.split_last() else {
         return;
@@ -97,9 +98,3 @@ pub fn write(w: &mut Writer, nodes: &[Node], spot: Spot)
         _ => operand(w, *node),
     }
 }
-
-// The theorems on the canonical form: it says the set, in short numbers, with the fewest levels; and a text says one set.
-pub fn canonical_stands()
-    ensures canonical { (t : UserSet) → Canonical t }
-    ensures one { OneReading }
-{}

@@ -4,6 +4,7 @@ use mathlib.Core.Path.{fun_ext}
 use borrow.Author.Tests.{clash}
 use Rattle.std.proofs.lemmas.Bool.{lt-ltb, le-ltb, cases_lt, cases_eq, and_from, and_parts}
 use Rattle.std.proofs.lemmas.List.{append-nil}
+use Rattle.grammar.specs.Text.{number_limit}
 use Rattle.lines.specs.Entries.{AllShort, all_below}
 use Rattle.meaning.specs.Lists.{listed as named}
 use Rattle.lines.proofs.Naming.{named_more, below_more}
@@ -37,11 +38,11 @@ module _ (f : ℕ → Bool) where
   asc_named zero k = sym (ap (λ a. a && f k) (le-ltb k 0 (omega arith)))
   asc_named (suc n) k = step n k (f n) refl (asc_named n k)
 
-  short_step : (n : ℕ) (b : Bool) → n < 100000 → AllShort (ascending f n) → AllShort (ascending f n ++ cond b (n ∷ []) [])
+  short_step : (n : ℕ) (b : Bool) → n < number_limit → AllShort (ascending f n) → AllShort (ascending f n ++ cond b (n ∷ []) [])
   short_step n true l h = short_more (ascending f n) n h l
   short_step n false l h = subst AllShort (sym (append-nil (ascending f n))) h
 
-  pub asc_short : (n : ℕ) → n ≤ 100000 → AllShort (ascending f n)
+  pub asc_short : (n : ℕ) → n ≤ number_limit → AllShort (ascending f n)
   unfolding ascending
   asc_short zero l = tt
   asc_short (suc n) l = short_step n (f n) (omega arith) (asc_short n (omega arith))
@@ -77,7 +78,7 @@ below_limit limit (n ∷ ns) k b e = let p = and_parts (ltb n limit) (all_below 
     split true q h l m = let z = eqb-true k n q in let y = ltb-true n limit l in omega arith
     split false q h l m = m h
 
-pub sorted : (f : ℕ → Bool) (limit n : ℕ) (ns : List ℕ) → limit ≤ 100000 → f ≡ named (n ∷ ns) → all_below limit (n ∷ ns) ≡ true → Sorted f limit (n ∷ ns)
+pub sorted : (f : ℕ → Bool) (limit n : ℕ) (ns : List ℕ) → limit ≤ number_limit → f ≡ named (n ∷ ns) → all_below limit (n ∷ ns) ≡ true → Sorted f limit (n ∷ ns)
 sorted f limit n ns small e b =
     let same : named (ascending f limit) ≡ named (n ∷ ns) = fun_ext (λ k. asc_named f limit k ∙ ap (λ g. ltb k limit && g k) e ∙ inside k) in
     let hit : named (ascending f limit) n ≡ true = ap (λ g. g n) same ∙ ap (λ a. a || named ns n) (eq-eqb n n refl) in

@@ -3,6 +3,7 @@ use Rattle.std.proofs.Common.{◌≡◌, ℕ, ◌+◌, ◌-◌, ◌≤◌, max, 
 use borrow.Author.Tests.{clash}
 use Rattle.std.proofs.lemmas.Bool.{and_parts, and_from}
 use Rattle.std.proofs.lemmas.List.{take_all}
+use Rattle.meaning.specs.Measures as measures
 use Rattle.grammar.specs.declared.grounds.Ground.{Ground}
 use Rattle.grammar.specs.declared.grounds.Ground.TheVariants.{Syntax, Range, Measure, NotSemiStatic}
 use Rattle.lines.specs.Languages.{Fails}
@@ -11,18 +12,19 @@ use Rattle.grammar.specs.Phrase.{set, Phrase, meaning, levels, operands, in_rang
 use Rattle.rbac.specs.Roles.{roles_of}
 use Rattle.rbac.specs.declared.sets.RoleSet.{RoleSet}
 use Rattle.bounded.specs.Entries.{entries as kept}
-use Rattle.trees.specs.Reading.{Nodes, listed}
+use Rattle.trees.specs.Reading.{Nodes, nodes_in}
 use Rattle.lines.proofs.Rowing.{some_is, no_some}
 use Rattle.lines.specs.declared.change.Change.{Change}
 use Rattle.lines.specs.declared.change.Extra.{Extra}
 use Rattle.lines.specs.declared.keyword.Keyword.{Keyword}
 use Rattle.lines.specs.declared.keyword.Keyword.TheVariants.{Ua, Pa, Rh, Trust, Assign, Revoke, Always, Never}
-use Rattle.lines.specs.Entries.{entries, all_below}
+use Rattle.lines.specs.Entries.{all_below, entry_bytes}
 use Rattle.meaning.specs.Lists.{listed as named}
 use Rattle.lines.specs.Lists.{number_of}
 use Rattle.lines.specs.Bodies as B
-use Rattle.lines.specs.Bodies.{Row, roles_in, users_in, Clause, always_true, in_set, clause_bytes, ProperClause, clause_ranged, clause_small, condition, Assigning, Sides}
-use Rattle.lines.specs.Lines.{bodies, Sentence, lines, Line, TreeOf, Conditioned, Sided, Lists, Trusts, Means, says_ua, says_pa, says_rh, says_trust, says_assign, says_revoke, says_always, says_never, Fine}
+use Rattle.lines.specs.Bodies.{deepest, roles_in, users_in, Clause, always_true, in_set, clause_bytes, ProperClause, clause_ranged, clause_small, condition, Assigning, Sides, RoleListing}
+use Rattle.lines.specs.Lines.{bodies, Sentence, lines, Fine}
+use Rattle.pen.specs.declared.spot.Spot.TheVariants.{Set}
 use Rattle.pen.specs.Ascending.{ascending}
 use Rattle.pen.specs.Canon.{as_set}
 use Rattle.pen.proofs.Canonical.{canonical}
@@ -31,57 +33,58 @@ use Rattle.saving.specs.Canonical.{role_row, condition_text, assign_text, side_t
 use Rattle.saving.specs.RoundTrip.{Value, ua, pa, rh, revoke, trust, assign, always, never, value_of, Fits, Back, RoundTrip, ReadBack}
 use Rattle.saving.proofs.Laying.{text_is}
 use Rattle.saving.proofs.Ascends.{sorted}
+use Rattle.lines.specs.Changes.{TreeOf, Conditioned, Sided, NamesRoles, NamesUsers, Means, says_ua, says_pa, says_rh, says_trust, says_assign, says_revoke, says_always, says_never, Line}
 
 -- ---- lines of one number and a list
 
-record RowBack (letter limit : ℕ) (between : List ℕ) (x : Row) (n : ℕ) (roles : RoleSet) : Type 0 where
-  row : Row
-  bytes : decimal n ++ (between ++ entries 114 (ascending (roles_of roles) 64)) ≡ decimal row.subject ++ (between ++ entries 114 (roles_in row))
-  proper : (B.rows letter limit between).proper row
-  ranged : (B.rows letter limit between).ranged row ≡ true
+record RowBack (letter limit : ℕ) (between : List ℕ) (x : RoleListing) (n : ℕ) (roles : RoleSet) : Type 0 where
+  row : RoleListing
+  bytes : decimal n ++ (between ++ entry_bytes 114 (ascending (roles_of roles) measures.roles)) ≡ decimal row.subject ++ (between ++ entry_bytes 114 (roles_in row))
+  proper : (B.role_listings letter limit between).proper row
+  ranged : (B.role_listings letter limit between).ranged row ≡ true
   subject : row.subject ≡ x.subject
   same : named (roles_in row) ≡ named (roles_in x)
 
-row_back : (letter limit : ℕ) (between : List ℕ) (x : Row) (n : ℕ) (roles : RoleSet) (e : Extra) → (B.rows letter limit between).proper x → (B.rows letter limit between).ranged x ≡ true → n ≡ x.subject → Lists (roles_in x) roles e → RowBack letter limit between x n roles
+row_back : (letter limit : ℕ) (between : List ℕ) (x : RoleListing) (n : ℕ) (roles : RoleSet) (e : Extra) → (B.role_listings letter limit between).proper x → (B.role_listings letter limit between).ranged x ≡ true → n ≡ x.subject → NamesRoles (roles_in x) roles e → RowBack letter limit between x n roles
 row_back letter limit between x n roles e h r q l =
-    let p = and_parts (ltb x.subject limit) (all_below 64 (roles_in x)) r in
-    let s = sorted (roles_of roles) 64 x.first x.more (omega arith) l.set p.1 in
+    let p = and_parts (ltb x.subject limit) (all_below measures.roles (roles_in x)) r in
+    let s = sorted (roles_of roles) measures.roles x.first x.more (omega arith) l.set p.1 in
     record {
       row = record { subject = x.subject; first = s.first; more = s.more };
-      bytes = ap₂ (λ m ns. decimal m ++ (between ++ entries 114 ns)) q s.is;
+      bytes = ap₂ (λ m ns. decimal m ++ (between ++ entry_bytes 114 ns)) q s.is;
       proper = (h.0, s.short);
       ranged = and_from _ _ p.0 s.below;
       subject = refl;
       same = s.same;
     }
 
-back_ua : (x : Row) (n : ℕ) (roles : RoleSet) (e : Extra) → Fine (record { keyword = Ua; body = x }) → n ≡ x.subject → Lists (roles_in x) roles e → Back (value_of Ua x) (role_row (codes "ua u") n [] roles)
+back_ua : (x : RoleListing) (n : ℕ) (roles : RoleSet) (e : Extra) → Fine (record { keyword = Ua; body = x }) → n ≡ x.subject → NamesRoles (roles_in x) roles e → Back (value_of Ua x) (role_row (codes "ua u") n [] roles)
 back_ua x n roles e h q l =
-    let d = row_back 117 65536 [] x n roles e h.proper.1 h.ranged q l in
+    let d = row_back 117 measures.users [] x n roles e h.proper.1 h.ranged q l in
     record { line = record { keyword = Ua; body = d.row }; bytes = ap (λ a. codes "ua u" ++ a) d.bytes; fine = record { proper = (refl, d.proper); ranged = d.ranged; small = refl; semi_static = refl }; same = ap₂ ua d.subject d.same }
 
-back_pa : (x : Row) (n : ℕ) (roles : RoleSet) (e : Extra) → Fine (record { keyword = Pa; body = x }) → n ≡ x.subject → Lists (roles_in x) roles e → Back (value_of Pa x) (role_row (codes "pa p") n [] roles)
+back_pa : (x : RoleListing) (n : ℕ) (roles : RoleSet) (e : Extra) → Fine (record { keyword = Pa; body = x }) → n ≡ x.subject → NamesRoles (roles_in x) roles e → Back (value_of Pa x) (role_row (codes "pa p") n [] roles)
 back_pa x n roles e h q l =
-    let d = row_back 112 32 [] x n roles e h.proper.1 h.ranged q l in
+    let d = row_back 112 measures.permissions [] x n roles e h.proper.1 h.ranged q l in
     record { line = record { keyword = Pa; body = d.row }; bytes = ap (λ a. codes "pa p" ++ a) d.bytes; fine = record { proper = (refl, d.proper); ranged = d.ranged; small = refl; semi_static = refl }; same = ap₂ pa d.subject d.same }
 
-back_rh : (x : Row) (n : ℕ) (roles : RoleSet) (e : Extra) → Fine (record { keyword = Rh; body = x }) → n ≡ x.subject → Lists (roles_in x) roles e → Back (value_of Rh x) (role_row (codes "rh r") n [] roles)
+back_rh : (x : RoleListing) (n : ℕ) (roles : RoleSet) (e : Extra) → Fine (record { keyword = Rh; body = x }) → n ≡ x.subject → NamesRoles (roles_in x) roles e → Back (value_of Rh x) (role_row (codes "rh r") n [] roles)
 back_rh x n roles e h q l =
-    let d = row_back 114 64 [] x n roles e h.proper.1 h.ranged q l in
+    let d = row_back 114 measures.roles [] x n roles e h.proper.1 h.ranged q l in
     record { line = record { keyword = Rh; body = d.row }; bytes = ap (λ a. codes "rh r" ++ a) d.bytes; fine = record { proper = (refl, d.proper); ranged = d.ranged; small = refl; semi_static = refl }; same = ap₂ rh d.subject d.same }
 
-back_revoke : (x : Row) (n : ℕ) (roles : RoleSet) (e : Extra) → Fine (record { keyword = Revoke; body = x }) → n ≡ x.subject → Lists (roles_in x) roles e → Back (value_of Revoke x) (role_row (codes "revoke r") n (codes " :") roles)
+back_revoke : (x : RoleListing) (n : ℕ) (roles : RoleSet) (e : Extra) → Fine (record { keyword = Revoke; body = x }) → n ≡ x.subject → NamesRoles (roles_in x) roles e → Back (value_of Revoke x) (role_row (codes "revoke r") n (codes " :") roles)
 back_revoke x n roles e h q l =
-    let d = row_back 114 64 (codes " :") x n roles e h.proper.1 h.ranged q l in
+    let d = row_back 114 measures.roles (codes " :") x n roles e h.proper.1 h.ranged q l in
     record { line = record { keyword = Revoke; body = d.row }; bytes = ap (λ a. codes "revoke r" ++ a) d.bytes; fine = record { proper = (refl, d.proper); ranged = d.ranged; small = refl; semi_static = refl }; same = ap₂ revoke d.subject d.same }
 
-back_trust : (x : B.Users) (e : Extra) → Fine (record { keyword = Trust; body = x }) → length (users_in x) ≤ 32 → Trusts (users_in x) e → Back (value_of Trust x) (trust_text e)
+back_trust : (x : B.Users) (e : Extra) → Fine (record { keyword = Trust; body = x }) → length (users_in x) ≤ measures.trusted_users → NamesUsers (users_in x) e → Back (value_of Trust x) (trust_text e)
 back_trust x e h l t =
-    let us : map number_of (kept e.trusted) ≡ users_in x = t.first ∙ take_all 32 (users_in x) l in
-    let s = sorted (named (map number_of (kept e.trusted))) 65536 x.first x.more (omega arith) (ap named us) h.ranged in
+    let us : map number_of (kept e.trusted) ≡ users_in x = t.first ∙ take_all measures.trusted_users (users_in x) l in
+    let s = sorted (named (map number_of (kept e.trusted))) measures.users x.first x.more (omega arith) (ap named us) h.ranged in
     record {
       line = record { keyword = Trust; body = record { first = s.first; more = s.more } };
-      bytes = ap (λ ns. codes "trust" ++ entries 117 ns) s.is;
+      bytes = ap (λ ns. codes "trust" ++ entry_bytes 117 ns) s.is;
       fine = record { proper = (refl, s.short); ranged = s.below; small = refl; semi_static = refl };
       same = ap trust s.same;
     }
@@ -90,16 +93,16 @@ back_trust x e h l t =
 
 module _ (p : Phrase set) (r : in_range (meaning p) ≡ true) where
   says : meaning (as_set (meaning p)) ≡ meaning p
-  says = (canonical (meaning p)).says
+  says = (canonical Set (meaning p)).says
 
   short : Short (meaning (as_set (meaning p)))
-  short = (canonical (meaning p)).short r
+  short = (canonical Set (meaning p)).short r
 
   in_range_lem : in_range (meaning (as_set (meaning p))) ≡ true
   in_range_lem = ap in_range says ∙ r
 
   fewer : levels (as_set (meaning p)) ≤ levels p
-  fewer = (canonical (meaning p)).least p refl
+  fewer = (canonical Set (meaning p)).fewest_levels p refl
 
   as_many : operands (meaning (as_set (meaning p))) ≡ operands (meaning p)
   as_many = ap operands says
@@ -115,21 +118,21 @@ record SidesBack (x : Sides) (e : Extra) : Type 0 where
   larger : meaning sides.larger ≡ meaning x.larger
   smaller : meaning sides.smaller ≡ meaning x.smaller
 
-within : (a b c d : ℕ) → a ≤ c → b ≤ d → leb (max c d) 8 ≡ true → leb (max a b) 8 ≡ true
-within a b c d p q h = let z = leb-true (max c d) 8 h in le-leb (max a b) 8 (omega arith)
+within : (a b c d : ℕ) → a ≤ c → b ≤ d → leb (max c d) deepest ≡ true → leb (max a b) deepest ≡ true
+within a b c d p q h = let z = leb-true (max c d) deepest h in le-leb (max a b) deepest (omega arith)
 
 sides_back : (x : Sides) (e : Extra) → (B.sides).proper x → (B.sides).ranged x ≡ true → (B.sides).small x ≡ true → (B.sides).semi_static x ≡ true → Sided x e → SidesBack x e
 sides_back x e pr ra sm st s =
     let p = x.larger in
     let q = x.smaller in
     let r = and_parts (in_range (meaning p)) (in_range (meaning q)) ra in
-    let m = and_parts (leb (operands (meaning p) + operands (meaning q)) 32) (leb (max (levels p) (levels q)) 8) sm in
+    let m = and_parts (leb (operands (meaning p) + operands (meaning q)) measures.question_operands) (leb (max (levels p) (levels q)) deepest) sm in
     record {
       sides = record { larger = as_set (meaning p); smaller = as_set (meaning q) };
       bytes = ap₂ (λ a b. 32 ∷ (a ++ (codes " >= " ++ b))) (sym (text_is e.left (meaning p) s.left)) (sym (text_is e.right (meaning q) s.right));
       proper = (short p r.0, short q r.1);
       ranged = and_from _ _ (in_range_lem p r.0) (in_range_lem q r.1);
-      small = and_from _ _ (ap₂ (λ a b. leb (a + b) 32) (as_many p r.0) (as_many q r.1) ∙ m.0) (within _ _ (levels p) (levels q) (fewer p r.0) (fewer q r.1) m.1);
+      small = and_from _ _ (ap₂ (λ a b. leb (a + b) measures.question_operands) (as_many p r.0) (as_many q r.1) ∙ m.0) (within _ _ (levels p) (levels q) (fewer p r.0) (fewer q r.1) m.1);
       semi_static = ap₂ (λ a b. static a || static b) (says p r.0) (says q r.1) ∙ st;
       larger = says p r.0;
       smaller = says q r.1;
@@ -168,28 +171,28 @@ record ClauseBack (c : Clause) (tree : Option Nodes) : Type 0 where
 clause_back : (c : Clause) (tree : Option Nodes) → ProperClause c → clause_ranged c ≡ true → clause_small c ≡ true → TreeOf c tree → ClauseBack c tree
 clause_back always_true tree p r m h = record { clause = always_true; bytes = ap condition_text h; proper = tt; ranged = refl; small = refl; same = refl }
 clause_back (in_set p) tree q r m h =
-    let o = and_parts (leb (operands (meaning p)) 16) (leb (levels p) 8) m in
-    let d = leb-true (levels p) 8 o.1 in
+    let o = and_parts (leb (operands (meaning p)) measures.condition_operands) (leb (levels p) deepest) m in
+    let d = leb-true (levels p) deepest o.1 in
     let f = fewer p r in
     record {
       clause = in_set (as_set (meaning p));
       bytes = ap condition_text h.1 ∙ sym (text_is h.0 (meaning p) h.2);
       proper = (short p r, ap roles_alone (says p r) ∙ q.1);
       ranged = in_range_lem p r;
-      small = and_from _ _ (ap (λ n. leb n 16) (as_many p r) ∙ o.0) (le-leb (levels (as_set (meaning p))) 8 (omega arith));
+      small = and_from _ _ (ap (λ n. leb n measures.condition_operands) (as_many p r) ∙ o.0) (le-leb (levels (as_set (meaning p))) deepest (omega arith));
       same = ap as_condition (says p r);
     }
 
-back_assign : (x : Assigning) (n : ℕ) (targets : RoleSet) (e : Extra) → Fine (record { keyword = Assign; body = x }) → n ≡ x.row.subject → Lists (roles_in x.row) targets e → Conditioned x.clause e → Back (value_of Assign x) (assign_text n targets e)
+back_assign : (x : Assigning) (n : ℕ) (targets : RoleSet) (e : Extra) → Fine (record { keyword = Assign; body = x }) → n ≡ x.row.subject → NamesRoles (roles_in x.row) targets e → Conditioned x.clause e → Back (value_of Assign x) (assign_text n targets e)
 back_assign x n targets e h q l d =
-    let p = and_parts (ltb x.row.subject 64) (clause_ranged x.clause && all_below 64 (roles_in x.row)) h.ranged in
-    let r = and_parts (clause_ranged x.clause) (all_below 64 (roles_in x.row)) p.1 in
-    let s = sorted (roles_of targets) 64 x.row.first x.row.more (omega arith) l.set r.1 in
+    let p = and_parts (ltb x.row.subject measures.roles) (clause_ranged x.clause && all_below measures.roles (roles_in x.row)) h.ranged in
+    let r = and_parts (clause_ranged x.clause) (all_below measures.roles (roles_in x.row)) p.1 in
+    let s = sorted (roles_of targets) measures.roles x.row.first x.row.more (omega arith) l.set r.1 in
     let c = clause_back x.clause e.condition h.proper.1.2 r.0 h.small d in
     let y : Assigning = record { row = record { subject = x.row.subject; first = s.first; more = s.more }; clause = c.clause } in
     record {
       line = record { keyword = Assign; body = y };
-      bytes = ap (λ m. assign_text m targets e) q ∙ ap₂ (λ a ns. codes "assign r" ++ (decimal x.row.subject ++ (codes " : " ++ (a ++ (codes " :" ++ entries 114 ns))))) c.bytes s.is;
+      bytes = ap (λ m. assign_text m targets e) q ∙ ap₂ (λ a ns. codes "assign r" ++ (decimal x.row.subject ++ (codes " : " ++ (a ++ (codes " :" ++ entry_bytes 114 ns))))) c.bytes s.is;
       fine = record { proper = (refl, (h.proper.1.0, s.short, c.proper)); ranged = and_from _ _ p.0 (and_from _ _ c.ranged s.below); small = c.small; semi_static = refl };
       same = ap₂ (assign x.row.subject) c.same s.same;
     }
@@ -219,7 +222,7 @@ trees_are k b c e (says_assign {x = x} q l d) = condition_tree x.clause e d
   where
     condition_tree : (clause : Clause) (f : Extra) → Conditioned clause f → S.AssignTrees f
     condition_tree always_true f h ns n = no_some ns (sym h ∙ n)
-    condition_tree (in_set p) f h ns n = (meaning p, ap (λ (k : Nodes). listed k) (some_is _ _ (sym n ∙ h.1)) ∙ h.2)
+    condition_tree (in_set p) f h ns n = (meaning p, ap (λ (k : Nodes). nodes_in k) (some_is _ _ (sym n ∙ h.1)) ∙ h.2)
 trees_are k b c e (says_revoke q l) = tt
 trees_are k b c e (says_always {x = x} s) = ((meaning x.larger, s.left), (meaning x.smaller, s.right))
 trees_are k b c e (says_never {x = x} s) = ((meaning x.larger, s.left), (meaning x.smaller, s.right))

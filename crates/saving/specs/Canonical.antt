@@ -1,20 +1,21 @@
 -- The one canonical text of a line, from its change and what lies beside it.
 use Rattle.std.specs.Prelude.{◌≡◌, ℕ, ◌<◌, ◌≤◌, List, [], ◌++◌, map, length, drop, Some, None, codes, decimal, Option}
+use Rattle.meaning.specs.Measures as measures
 use Rattle.meaning.specs.Sets.{UserSet}
 use Rattle.grammar.specs.Phrase.{render}
 use Rattle.rbac.specs.Roles.{roles_of}
 use Rattle.rbac.specs.declared.sets.RoleSet.{RoleSet}
 use Rattle.bounded.specs.Entries.{entries as kept}
-use Rattle.trees.specs.Reading.{Nodes, postfix, listed}
+use Rattle.trees.specs.Reading.{Nodes, postfix, nodes_in}
 use Rattle.trees.specs.Trees.{decode}
 use Rattle.lines.specs.declared.change.Change.{Change}
 use Rattle.lines.specs.declared.change.Change.TheVariants.{Ua, Pa, Rh, Trust, Assign, Revoke, Always, Never}
 use Rattle.lines.specs.declared.change.Extra.{Extra}
-use Rattle.lines.specs.Entries.{entries}
 use Rattle.meaning.specs.Lists.{listed as named}
 use Rattle.lines.specs.Lists.{number_of}
 use Rattle.pen.specs.Ascending.{ascending}
 use Rattle.pen.specs.Canon.{as_set}
+use Rattle.lines.specs.Entries.{entry_bytes}
 
 -- the canonical text of a set, if there is one
 abbrev pub set_text : Option UserSet → List ℕ
@@ -23,24 +24,24 @@ set_text None = []
 
 -- the canonical text of the set that nodes say
 abbrev pub text_of : Nodes → List ℕ
-text_of ns = set_text (decode (listed ns))
+text_of ns = set_text (decode (nodes_in ns))
 
 -- a number and the roles of a set, ascending
 abbrev pub role_row : List ℕ → ℕ → List ℕ → RoleSet → List ℕ
-role_row word n between roles = word ++ (decimal n ++ (between ++ entries 114 (ascending (roles_of roles) 64)))
+role_row word n between roles = word ++ (decimal n ++ (between ++ entry_bytes 114 (ascending (roles_of roles) measures.roles)))
 
 abbrev pub condition_text : Option Nodes → List ℕ
 condition_text None = codes "true"
 condition_text (Some ns) = text_of ns
 
 abbrev pub assign_text : ℕ → RoleSet → Extra → List ℕ
-assign_text n targets e = codes "assign r" ++ (decimal n ++ (codes " : " ++ (condition_text e.condition ++ (codes " :" ++ entries 114 (ascending (roles_of targets) 64)))))
+assign_text n targets e = codes "assign r" ++ (decimal n ++ (codes " : " ++ (condition_text e.condition ++ (codes " :" ++ entry_bytes 114 (ascending (roles_of targets) measures.roles)))))
 
 abbrev pub side_text : List ℕ → Extra → List ℕ
 side_text word e = word ++ (text_of e.left ++ (codes " >= " ++ text_of e.right))
 
 abbrev pub trust_text : Extra → List ℕ
-trust_text e = codes "trust" ++ entries 117 (ascending (named (map number_of (kept e.trusted))) 65536)
+trust_text e = codes "trust" ++ entry_bytes 117 (ascending (named (map number_of (kept e.trusted))) measures.users)
 
 -- the line that says the change
 abbrev pub canonical : Change → Extra → List ℕ
@@ -55,7 +56,7 @@ canonical Never e = side_text (codes "never ") e
 
 -- the nodes are those of a set
 abbrev pub Whole : Nodes → Type 0
-Whole ns = (t : UserSet) × (listed ns ≡ postfix t)
+Whole ns = (t : UserSet) × (nodes_in ns ≡ postfix t)
 
 -- the trees that a change uses are sets
 abbrev pub AssignTrees : Extra → Type 0

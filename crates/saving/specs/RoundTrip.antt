@@ -1,5 +1,6 @@
 -- What a line says, and that its canonical text says the same.
 use Rattle.std.specs.Prelude.{◌≡◌, ℕ, ◌≤◌, Bool, List, length, Some, None, Ok, Err, Option, Result}
+use Rattle.meaning.specs.Measures.{trusted_users}
 use Rattle.meaning.specs.Rules.{Condition}
 use Rattle.meaning.specs.Sets.{UserSet}
 use Rattle.grammar.specs.Phrase.{meaning}
@@ -10,8 +11,9 @@ use Rattle.lines.specs.declared.keyword.Keyword.{Keyword}
 use Rattle.lines.specs.declared.keyword.Keyword.TheVariants.{Ua, Pa, Rh, Trust, Assign, Revoke, Always, Never, Possible, Necessary}
 use Rattle.meaning.specs.Lists.{listed as named}
 use Rattle.lines.specs.Bodies.{roles_in, users_in, condition}
-use Rattle.lines.specs.Lines.{bodies, Sentence, lines, Fine, Means}
+use Rattle.lines.specs.Lines.{bodies, Sentence, lines, Fine}
 use Rattle.saving.specs.Canonical.{canonical}
+use Rattle.lines.specs.Changes.{Means}
 
 -- what a line says: numbers, the numbers that a list names, a condition, sets
 pub data Value : Type 0 where
@@ -37,7 +39,7 @@ abbrev pub Fits : (k : Keyword) → (bodies k).Form → Type 0
 Fits Ua x = Unit {0}
 Fits Pa x = Unit {0}
 Fits Rh x = Unit {0}
-Fits Trust x = length (users_in x) ≤ 32
+Fits Trust x = length (users_in x) ≤ trusted_users
 Fits Assign x = Unit {0}
 Fits Revoke x = Unit {0}
 Fits Always x = Unit {0}

@@ -2,9 +2,10 @@
 // of both would lend again what is lent to `line`, and each promise would name the text through two references.
 ghost use Rattle.std.specs.Prelude.{◌≤◌, length};
 ghost use Rattle.pen.specs.Puts.{Wrote};
-ghost use Rattle.lines.specs.Lines.{Sentence, Means, Fine};
+ghost use Rattle.lines.specs.Lines.{Sentence, Fine};
 ghost use Rattle.saving.specs.RoundTrip.{Fits, value_of, ReadBack, RoundTrip};
 ghost use Rattle.saving.specs.Canonical.{canonical, Trees, AssignTrees, SideTrees, Saved, role_row, condition_text, assign_text, side_text, trust_text};
+ghost use Rattle.lines.specs.Changes.{Means};
 
 use crate::place::save;
 use grammar::{Ground, Reader};
@@ -64,7 +65,7 @@ fn trust(w: &mut Writer, extra: &Extra)
     w.users(extra.trusted.entries());
 }
 
-// Writes the line that says the change, without the byte that ends it.
+/// Writes the line that says the change, without the byte that ends it.
 pub fn line(w: &mut Writer, change: Change, extra: &Extra)
     ensures { Trees change extra.now → Wrote w.old (canonical change extra.now) w.new }
 {
@@ -86,14 +87,14 @@ pub fn line(w: &mut Writer, change: Change, extra: &Extra)
     }
 }
 
-// Writes the line at the front of the place, and says how long it is; a place that is too short is left as it was.
+/// Writes the line at the front of the place, and says how long it is; a place that is too short is left as it was.
 pub fn write_line(place: &mut [u8], change: Change, extra: &Extra) -> Option<usize>
     ensures { Trees change extra.now → Saved (canonical change extra.now) place.old result place.new }
 {
     save(place, |w| line(w, change, extra))
 }
 
-// Writes the line and reads it back: what comes back says what the line said.
+/// Writes the line and reads it back: what comes back says what the line said.
 pub fn again(
     place: &mut [u8],
     change: Change,

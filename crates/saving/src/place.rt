@@ -7,7 +7,7 @@ ghost use Rattle.saving.specs.Places.{Writes};
 
 use pen::Writer;
 
-// How much is written, up to the largest number.
+/// How much is written, up to the largest number.
 pub fn size<F: FnOnce(&mut Writer)>(write: F) -> usize
     requires { F.IsAlwaysCallable write }
     ensures { (a : List ℕ) → Writes (λ v w. FnOnceReturnsAtMut F.FnOnce write v tt w) a → result ≡ min (length a) top }
@@ -29,7 +29,7 @@ fn put<F: FnOnce(&mut Writer)>(place: &mut [u8], write: F)
     write(&mut out);
 }
 
-// Writes at the front of the place, and says how much; a place that is too short is left as it was.
+/// Writes at the front of the place, and says how much; a place that is too short is left as it was.
 pub fn save<F: FnOnce(&mut Writer) + Copy>(place: &mut [u8], write: F) -> Option<usize>
     requires { F.IsAlwaysCallable write }
     ensures { (a : List ℕ) → Writes (λ v w. FnOnceReturnsAtMut F.FnOnce write v tt w) a → Saved a place.old result place.new }

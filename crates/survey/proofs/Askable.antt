@@ -1,5 +1,6 @@
 -- Two sets that a line asks about can be asked.
 use Rattle.std.proofs.Common.{◌≡◌, ℕ, ◌+◌, ◌<◌, ◌≤◌, true, false, ◌&&◌, T, eqb, leb, length, sym, subst, inl, inr, arith, eqb→eq, ltb→lt, leb→le, length-append}
+use Rattle.meaning.specs.Measures as measures
 use Rattle.meaning.specs.Lists.{listed}
 use Rattle.meaning.specs.Membership.{User, IsUser}
 use Rattle.meaning.specs.Sets.{UserSet, members, holders, only, nobody, union, intersection, named, Askable}
@@ -21,7 +22,7 @@ named_few (intersection x y) = let a = named_few x in let b = named_few y in ome
 named_inside : (x : UserSet) → T (in_range x) → (u : User) → T (listed (named x) u) → IsUser u
 named_inside (members r) h u t = absurd t
 named_inside (holders n) h u t = absurd t
-named_inside (only v) h u t = elim (either (eqb u v) false t) [ inl e ↦ subst (λ (w : ℕ). w < 65536) (sym (eqb→eq u v e)) (ltb→lt v 65536 h) | inr f ↦ absurd f ]
+named_inside (only v) h u t = elim (either (eqb u v) false t) [ inl e ↦ subst (λ (w : ℕ). w < measures.users) (sym (eqb→eq u v e)) (ltb→lt v measures.users h) | inr f ↦ absurd f ]
 named_inside nobody h u t = absurd t
 named_inside (union x y) h u t = elim (listed_either (named x) (named y) u t) [
   | inl i ↦ named_inside x (first (in_range x) (in_range y) h) u i
@@ -37,7 +38,7 @@ sides_askable x ranged small static =
     let a = meaning x.larger in
     let b = meaning x.smaller in
     let r : T (in_range a && in_range b) = as_test (in_range a && in_range b) ranged in
-    let m : operands a + operands b ≤ 32 = leb→le (operands a + operands b) 32 (first (leb (operands a + operands b) 32) _ (as_test _ small)) in
+    let m : operands a + operands b ≤ measures.question_operands = leb→le (operands a + operands b) measures.question_operands (first (leb (operands a + operands b) measures.question_operands) _ (as_test _ small)) in
     let fa = named_few a in
     let fb = named_few b in
     record {

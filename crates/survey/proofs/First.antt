@@ -11,7 +11,8 @@ use Rattle.texts.specs.declared.faults.Fault.{Fault}
 use Rattle.texts.specs.declared.faults.Fault.TheVariants.{TooLong, Mark, InLine}
 use Rattle.meaning.specs.declared.terms.Regime.{Regime}
 use Rattle.meaning.specs.declared.terms.Regime.TheVariants.{Aatu, Aar}
-use Rattle.texts.specs.Board.{goes_on, unbroken, Cut, mark_line, regime_line, longest, BadLine, Comes}
+use Rattle.texts.specs.Lengths.{longest_text}
+use Rattle.texts.specs.Board.{goes_on, unbroken, Cut, mark_line, regime_line, BadLine, Comes}
 use Rattle.lines.specs.declared.change.Extra.{Extra}
 use Rattle.survey.specs.Whole.{Refused, here, endless, later, WholeFault, Before, WholeText}
 
@@ -76,7 +77,7 @@ regime_one Aatu Aar x y e = let h : 116 ∷ 117 ∷ 10 ∷ x ≡ 114 ∷ 10 ∷ 
 regime_one Aar Aatu x y e = let h : 114 ∷ 10 ∷ x ≡ 116 ∷ 117 ∷ 10 ∷ y = append_cancel_left (codes "regime aa") (114 ∷ 10 ∷ x) (116 ∷ 117 ∷ 10 ∷ y) e in let z : ◌≡◌ {A = ℕ} 114 116 = ap (λ s. get_or s 0 0) h in absurd (omega arith)
 
 module _ (s : List ℕ) where
-  module _ (short : length s ≤ longest) where
+  module _ (short : length s ≤ longest_text) where
     module _ (r : Regime) (x0 : List ℕ) (text : s ≡ mark_line ++ (regime_line r ++ x0)) where
       marked : WholeFault s Mark → ⊥
       marked f = f (regime_line r ++ x0) text

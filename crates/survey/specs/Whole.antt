@@ -7,7 +7,8 @@ use Rattle.lines.specs.Lines.{lines}
 use Rattle.texts.specs.declared.faults.Fault.{Fault}
 use Rattle.texts.specs.declared.faults.Fault.TheVariants.{TooLong, Mark, InLine}
 use Rattle.meaning.specs.declared.terms.Regime.{Regime}
-use Rattle.texts.specs.Board.{unbroken, Cut, mark_line, regime_line, longest}
+use Rattle.texts.specs.Board.{unbroken, Cut, mark_line, regime_line}
+use Rattle.texts.specs.Lengths.{longest_text}
 
 -- in a text whose line n begins here, line m is refused on this ground: it is no line, or nothing ends it
 pub data Refused : ℕ → List ℕ → Ground → ℕ → Type 0 where
@@ -22,7 +23,7 @@ pub record NoRegime (s : List ℕ) : Type 0 where
 
 -- each fault on its own
 abbrev pub WholeFault : List ℕ → Fault → Type 0
-WholeFault s TooLong = longest < length s
+WholeFault s TooLong = longest_text < length s
 WholeFault s Mark = (x : List ℕ) → s ≢ mark_line ++ x
 WholeFault s (InLine g n) = ((n ≡ 2) × (g ≡ Syntax) × NoRegime s) ⊎ ((r : Regime) × (x : List ℕ) × (s ≡ mark_line ++ (regime_line r ++ x)) × Refused 3 x g n)
 

@@ -13,7 +13,7 @@ use meaning::Regime;
 use texts::Fault;
 use texts::board::{begin, next};
 
-// Reads all of a board text: its regime, or its first fault.
+/// Reads all of a board text: its regime, or its first fault.
 pub fn check(text: &[u8], extra: &mut Extra) -> Result<Regime, Fault>
     ensures { WholeText text.now result }
 {
@@ -23,7 +23,7 @@ pub fn check(text: &[u8], extra: &mut Extra) -> Result<Regime, Fault>
     Ok(regime)
 }
 
-// The test that the readers make of two sets decides what the policy calls semi-static.
+/// The test that the readers make of two sets decides what is semi-static in the meaning.
 pub fn semi_static_stands()
     ensures { (x : Sides) → Decides (sides.semi_static x) (SemiStatic (question_of x)) }
 {}

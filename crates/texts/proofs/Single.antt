@@ -1,5 +1,6 @@
 -- Questions and changes: the answer of a line carried to the text that it is alone in.
 use Rattle.std.proofs.Common.{◌≡◌, ℕ, ◌<◌, ◌≤◌, true, List, ◌∷◌, length, get_or, Some, Ok, Err, Result, sym, refl, ap, ◌∙◌, arith}
+use Rattle.texts.specs.Lengths.{longest_line}
 use Rattle.grammar.specs.Text.{ahead}
 use Rattle.grammar.specs.declared.grounds.Ground.{Ground}
 use Rattle.grammar.specs.declared.grounds.Ground.TheVariants.{Syntax, Range, Measure, NotSemiStatic}
@@ -8,23 +9,24 @@ use Rattle.lines.specs.declared.keyword.Keyword.TheVariants as keyword
 use Rattle.lines.specs.declared.change.Change.{Change}
 use Rattle.lines.specs.declared.change.Extra.{Extra}
 use Rattle.lines.specs.Languages.{Language, Says, Fails, Refuses, number_of, Least, Unrefused, Told}
-use Rattle.lines.specs.Lines.{Sentence, asks, lines, Line}
+use Rattle.lines.specs.Lines.{Sentence, asks, lines}
 use Rattle.lines.proofs.Judging.{syntax_least}
 use Rattle.texts.specs.declared.faults.Fault.{Fault}
 use Rattle.texts.specs.declared.faults.Fault.TheVariants.{TooLong, Mark, InLine}
 use Rattle.texts.specs.declared.faults.Way.{Way}
 use Rattle.texts.specs.declared.faults.Way.TheVariants.{Add, Remove}
-use Rattle.texts.specs.Answers.{told, Faulty, Answer, Asks, asks_possible, asks_necessary, Changing, sign_of, changes}
+use Rattle.texts.specs.Answers.{told, Faulty, Answer, Changing, sign_of, changes}
 use Rattle.meaning.specs.declared.terms.Kind.{Kind}
 use Rattle.meaning.specs.declared.terms.Kind.TheVariants.{Possible, Necessary}
 use Rattle.lines.specs.Readings.{TwoSides}
 use Rattle.texts.specs.Words.{Starts}
-use Rattle.texts.specs.Sentences.{Lined, Asked, Changed}
+use Rattle.texts.specs.Sentences.{Lined, Asked, Changed, Asks, asks_possible, asks_necessary}
 use Rattle.texts.proofs.Starting.{whole_least, whole_unrefused, whole_told}
+use Rattle.lines.specs.Changes.{Line}
 
 -- a text that is not too long is refused as its line is
 module _ (L : Language) (s : List ℕ) {A : Type 0} (M : A → L.Form → Type 0) where
-  pub too_long : 1024 < length s → Answer L s M (Err TooLong)
+  pub too_long : longest_line < length s → Answer L s M (Err TooLong)
   too_long h = (h, lower)
     where
       lower : (d : Fault) → (told d).number < 1 → Faulty L s d → ⊥
@@ -35,7 +37,7 @@ module _ (L : Language) (s : List ℕ) {A : Type 0} (M : A → L.Form → Type 0
       lower (InLine Measure n) k w = omega arith
       lower (InLine NotSemiStatic n) k w = omega arith
 
-  module _ (short : length s ≤ 1024) where
+  module _ (short : length s ≤ longest_line) where
     pub line_fault : (g : Ground) → Least L s g → Answer L s M (Err (InLine g 1))
     line_fault g (r, n, f) = ((refl, r), lower)
       where
@@ -57,7 +59,7 @@ abbrev pub carried : {A : Type 0} → Result A Ground → Result A Fault
 carried (Ok a) = Ok a
 carried (Err g) = Err (InLine g 1)
 
-pub carry : (L : Language) (s : List ℕ) {A : Type 0} (M : A → L.Form → Type 0) → length s ≤ 1024 → (r : Result A Ground) → Lined L s M r → Answer L s M (carried r)
+pub carry : (L : Language) (s : List ℕ) {A : Type 0} (M : A → L.Form → Type 0) → length s ≤ longest_line → (r : Result A Ground) → Lined L s M r → Answer L s M (carried r)
 carry L s M short (Ok a) h = line_fine L s M short a h.0 h.1
 carry L s M short (Err g) h = line_fault L s M short g h
 

@@ -15,10 +15,11 @@ use Rattle.lines.specs.declared.keyword.Keyword.TheVariants.{Ua, Pa, Rh, Trust, 
 use Rattle.lines.specs.declared.change.Change.{Change}
 use Rattle.lines.specs.declared.change.Extra.{Extra}
 use Rattle.lines.specs.Languages.{Says, Fails, Refuses, Least, Unrefused, Told}
-use Rattle.lines.specs.Lines.{word, bodies, asks, Sentence, sentences, Means, Body, Line}
+use Rattle.lines.specs.Lines.{word, bodies, asks, Sentence, sentences}
 use Rattle.lines.proofs.Judging.{syntax_least}
 use Rattle.lines.proofs.Rowing.{some_is, no_some}
 use Rattle.texts.specs.Words.{spells, Keywords, Starts}
+use Rattle.lines.specs.Changes.{Means, Body, Line}
 
 abbrev pub keywords : List Keyword
 keywords = Ua ∷ Pa ∷ Rh ∷ Trust ∷ Assign ∷ Revoke ∷ Always ∷ Never ∷ Possible ∷ Necessary ∷ []

@@ -3,7 +3,8 @@ use Rattle.std.specs.Prelude.{◌≡◌, ℕ, ◌<◌, List, ◌∷◌, length, 
 use Rattle.lines.specs.declared.keyword.Keyword.TheVariants as keyword
 use Rattle.lines.specs.declared.change.Extra.{Extra}
 use Rattle.lines.specs.Languages.{Language, Refuses, number_of, Told}
-use Rattle.lines.specs.Lines.{bodies, Sentence, lines, Sided, Means}
+use Rattle.lines.specs.Lines.{bodies, Sentence, lines}
+use Rattle.texts.specs.Lengths.{longest_line}
 use Rattle.texts.specs.declared.faults.Fault.{Fault}
 use Rattle.texts.specs.declared.faults.Fault.TheVariants.{TooLong, Mark, InLine}
 use Rattle.texts.specs.declared.faults.Order.{Order}
@@ -11,6 +12,7 @@ use Rattle.meaning.specs.declared.terms.Kind.{Kind}
 use Rattle.meaning.specs.declared.terms.Kind.TheVariants.{Possible, Necessary}
 use Rattle.texts.specs.declared.faults.Way.{Way}
 use Rattle.texts.specs.declared.faults.Way.TheVariants.{Add, Remove}
+use Rattle.lines.specs.Changes.{Sided, Means}
 
 -- the number of a fault and the line that it names
 pub record Report : Type 0 where
@@ -22,13 +24,9 @@ told TooLong = record { number = 1; line = 0 }
 told Mark = record { number = 2; line = 1 }
 told (InLine g n) = record { number = number_of g; line = n }
 
--- a question or change has at most so many bytes
-abbrev pub longest : ℕ
-longest = 1024
-
 -- each fault of a text that is one form of a language, on its own; its line is line 1
 abbrev pub Faulty : Language → List ℕ → Fault → Type 0
-Faulty L s TooLong = longest < length s
+Faulty L s TooLong = longest_line < length s
 Faulty L s Mark = ⊥
 Faulty L s (InLine g n) = (n ≡ 1) × Refuses L s g
 
@@ -36,11 +34,6 @@ Faulty L s (InLine g n) = (n ≡ 1) × Refuses L s g
 abbrev pub Answer : (L : Language) → List ℕ → {A : Type 0} → (A → L.Form → Type 0) → Result A Fault → Type 0
 Answer L s M (Ok a) = ((d : Fault) → Faulty L s d → ⊥) × Told L s (M a)
 Answer L s M (Err f) = (Faulty L s f) × ((d : Fault) → (told d).number < (told f).number → Faulty L s d → ⊥)
-
--- the question that a sentence asks, with its two sets beside it
-pub data Asks (e : Extra) : Kind → (f : Sentence) → Type 0 where
-  asks_possible : {x : (bodies keyword.Possible).Form} → Sided x e → Asks e Possible (record { keyword = keyword.Possible; body = x })
-  asks_necessary : {x : (bodies keyword.Necessary).Form} → Sided x e → Asks e Necessary (record { keyword = keyword.Necessary; body = x })
 
 -- a change is `+` or `-` and a line
 pub record Changing : Type 0 where
@@ -60,8 +53,3 @@ changes = record {
   small = λ x. lines.small x.line;
   semi_static = λ x. lines.semi_static x.line;
 }
-
--- the order that a change gives
-pub record Orders (e : Extra) (o : Order) (x : Changing) : Type 0 where
-  pub way : o.way ≡ x.way
-  pub change : Means x.line.keyword x.line.body o.change e

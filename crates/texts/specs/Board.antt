@@ -5,12 +5,14 @@ use Rattle.grammar.specs.declared.grounds.Ground.{Ground}
 use Rattle.grammar.specs.declared.grounds.Ground.TheVariants.{Syntax}
 use Rattle.lines.specs.declared.change.Extra.{Extra}
 use Rattle.lines.specs.Languages.{Least}
-use Rattle.lines.specs.Lines.{lines, Line}
+use Rattle.lines.specs.Lines.{lines}
+use Rattle.texts.specs.Lengths.{longest_text}
 use Rattle.texts.specs.declared.faults.Fault.{Fault}
 use Rattle.texts.specs.declared.faults.Fault.TheVariants.{TooLong, Mark, InLine}
 use Rattle.lines.specs.declared.change.Change.{Change}
 use Rattle.meaning.specs.declared.terms.Regime.{Regime}
 use Rattle.meaning.specs.declared.terms.Regime.TheVariants.{Aatu, Aar}
+use Rattle.lines.specs.Changes.{Line}
 
 -- a byte that does not end a line
 abbrev pub goes_on : ℕ → Bool
@@ -39,16 +41,12 @@ abbrev pub regime_line : Regime → List ℕ
 regime_line Aatu = codes "regime aatu" ++ 10 ∷ []
 regime_line Aar = codes "regime aar" ++ 10 ∷ []
 
--- a board text has at most so many bytes
-abbrev pub longest : ℕ
-longest = 65536
-
 -- the length is tested first, then the mark, then the second line
 abbrev pub Begins : List ℕ → Result Regime Fault → List ℕ → Type 0
-Begins s (Ok g) after = (length s ≤ longest) × (s ≡ mark_line ++ (regime_line g ++ after))
-Begins s (Err TooLong) after = longest < length s
-Begins s (Err Mark) after = (length s ≤ longest) × ((x : List ℕ) → s ≢ mark_line ++ x)
-Begins s (Err (InLine g n)) after = (length s ≤ longest) × (g ≡ Syntax) × (n ≡ 2) × ((x : List ℕ) × (s ≡ mark_line ++ x)) × ((r : Regime) (x : List ℕ) → s ≢ mark_line ++ (regime_line r ++ x))
+Begins s (Ok g) after = (length s ≤ longest_text) × (s ≡ mark_line ++ (regime_line g ++ after))
+Begins s (Err TooLong) after = longest_text < length s
+Begins s (Err Mark) after = (length s ≤ longest_text) × ((x : List ℕ) → s ≢ mark_line ++ x)
+Begins s (Err (InLine g n)) after = (length s ≤ longest_text) × (g ≡ Syntax) × (n ≡ 2) × ((x : List ℕ) × (s ≡ mark_line ++ x)) × ((r : Regime) (x : List ℕ) → s ≢ mark_line ++ (regime_line r ++ x))
 
 -- what follows the first two lines is line 3
 abbrev pub Third : Result Regime Fault → ℕ → Type 0

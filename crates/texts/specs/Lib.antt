@@ -1,3 +1,4 @@
+pub mod Lengths
 pub mod Words
 pub mod Answers
 pub mod Sentences

@@ -1,12 +1,25 @@
--- What the readers of one sentence answer, its length put aside.
-use Rattle.std.specs.Prelude.{ℕ, List, Ok, Err, Result}
+-- What a sentence asks or orders, and what its readers answer, its length put aside.
+use Rattle.std.specs.Prelude.{ℕ, List, Ok, Err, Result, ◌≡◌}
 use Rattle.grammar.specs.declared.grounds.Ground.{Ground}
 use Rattle.lines.specs.declared.change.Extra.{Extra}
 use Rattle.lines.specs.Languages.{Language, Least, Unrefused, Told}
-use Rattle.lines.specs.Lines.{questions}
+use Rattle.lines.specs.Lines.{questions, bodies, Sentence}
 use Rattle.texts.specs.declared.faults.Order.{Order}
 use Rattle.meaning.specs.declared.terms.Kind.{Kind}
-use Rattle.texts.specs.Answers.{Asks, changes, Orders}
+use Rattle.lines.specs.declared.keyword.Keyword.TheVariants as keyword
+use Rattle.texts.specs.Answers.{Changing, changes}
+use Rattle.meaning.specs.declared.terms.Kind.TheVariants.{Possible, Necessary}
+use Rattle.lines.specs.Changes.{Sided, Means}
+
+-- the question that a sentence asks, with its two sets beside it
+pub data Asks (e : Extra) : Kind → (f : Sentence) → Type 0 where
+  asks_possible : {x : (bodies keyword.Possible).Form} → Sided x e → Asks e Possible (record { keyword = keyword.Possible; body = x })
+  asks_necessary : {x : (bodies keyword.Necessary).Form} → Sided x e → Asks e Necessary (record { keyword = keyword.Necessary; body = x })
+
+-- the order that a change gives
+pub record Orders (e : Extra) (o : Order) (x : Changing) : Type 0 where
+  pub way : o.way ≡ x.way
+  pub change : Means x.line.keyword x.line.body o.change e
 
 -- the answer to a text that is one form of a language
 abbrev pub Lined : (L : Language) → List ℕ → {A : Type 0} → (A → L.Form → Type 0) → Result A Ground → Type 0

@@ -2,8 +2,9 @@
 ghost use Rattle.std.specs.Prelude.{◌≡◌, ◌<◌, ◌≤◌, length, MatchResult};
 ghost use Rattle.grammar.specs.Text.{rest};
 ghost use Rattle.lines.specs.Lines.{questions};
-ghost use Rattle.texts.specs.Answers.{Answer, Asks, Orders, changes, longest};
-ghost use Rattle.texts.specs.Sentences.{Asked, Changed};
+ghost use Rattle.texts.specs.Answers.{Answer, changes};
+ghost use Rattle.texts.specs.Lengths.{longest_line};
+ghost use Rattle.texts.specs.Sentences.{Asked, Changed, Asks, Orders};
 ghost use Rattle.texts.specs.declared.faults.Fault.TheVariants.{TooLong, InLine as in_line};
 
 use crate::faults::{Fault, Order, Way};
@@ -47,7 +48,7 @@ fn changed(r: &mut Reader, extra: &mut Extra) -> Result<Order, Ground>
 
 // The reader of a text of one line, unless the text is too long.
 fn single(text: &[u8]) -> Result<Reader<'_>, Fault>
-    ensures { MatchResult result (λ r. (length text.now ≤ longest) × (rest r ≡ text.now)) (λ f. (f ≡ TooLong) × (longest < length text.now)) }
+    ensures { MatchResult result (λ r. (length text.now ≤ longest_line) × (rest r ≡ text.now)) (λ f. (f ≡ TooLong) × (longest_line < length text.now)) }
 {
     if text.len() > LONGEST {
         return Err(Fault::TooLong);
@@ -62,7 +63,7 @@ fn refused(ground: Ground) -> Fault
     Fault::InLine { ground, line: 1 }
 }
 
-// Reads a question; its two sets lie beside it.
+/// Reads a question; its two sets lie beside it.
 pub fn read_question(text: &[u8], extra: &mut Extra) -> Result<Kind, Fault>
     ensures { Answer questions text.now (Asks extra.new) result }
 {
@@ -70,7 +71,7 @@ pub fn read_question(text: &[u8], extra: &mut Extra) -> Result<Kind, Fault>
     asked(&mut r, extra).map_err(refused)
 }
 
-// Reads an officer's change; its trusted users and its trees lie beside it.
+/// Reads an officer's change; its trusted users and its trees lie beside it.
 pub fn read_change(text: &[u8], extra: &mut Extra) -> Result<Order, Fault>
     ensures { Answer changes text.now (Orders extra.new) result }
 {

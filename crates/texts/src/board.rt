@@ -20,7 +20,7 @@ fn goes_on(b: u8) -> bool
     b != END
 }
 
-// Cuts off the next line, a part of the text without the byte that ends it; none where no such byte follows.
+/// Cuts off the next line, a part of the text without the byte that ends it; none where no such byte follows.
 pub fn cut<'a>(r: &mut Reader<'a>) -> Option<&'a [u8]>
     ensures read { Cuts (rest r.old) result (rest r.new) }
     ensures line { r.new.line ≡ min (r.old.line + 1) 18446744073709551615 }
@@ -36,7 +36,7 @@ pub fn cut<'a>(r: &mut Reader<'a>) -> Option<&'a [u8]>
     Some(&left[..end])
 }
 
-// The first two lines of a board text, whose reader stands at its start.
+/// The first two lines of a board text, whose reader stands at its start.
 pub fn begin(r: &mut Reader) -> Result<Regime, Fault>
     ensures read { Begins (rest r.old) result (rest r.new) }
     ensures line { Third result r.new.line }
@@ -61,7 +61,7 @@ pub fn begin(r: &mut Reader) -> Result<Regime, Fault>
     Ok(regime)
 }
 
-// The next line of a board text; none at its end.
+/// The next line of a board text; none at its end.
 pub fn next(r: &mut Reader, extra: &mut Extra) -> Result<Option<Change>, Fault>
     ensures read { Comes r.old.line (rest r.old) result (rest r.new) extra.new }
     ensures line { Counts result r.old.line r.new.line }

@@ -5,7 +5,7 @@ use grammar::Ground;
 use lines::Change;
 use std::fmt;
 
-// Why a text is refused, whatever the board: its length, its mark, or a line of it.
+/// Why a text is refused, whatever the board: its length, its mark, or a line of it.
 #[derive(Clone, Copy, Debug, PartialEq, Eq)]
 pub enum Fault {
     TooLong,
@@ -19,7 +19,7 @@ pub enum Way {
     Remove,
 }
 
-// An officer's change: what a line names is added or removed.
+/// An officer's change: what a line names is added or removed.
 #[derive(Clone, Copy)]
 pub struct Order {
     pub way: Way,
@@ -27,7 +27,7 @@ pub struct Order {
 }
 
 impl Fault {
-    // The number of the refusal, as the format has it.
+    /// The number of the refusal, as the format has it.
     pub fn number(self) -> u8
         ensures { result ≡ (told self).number }
     {
@@ -43,7 +43,7 @@ impl Fault {
         }
     }
 
-    // The line that the refusal names; 0 stands for the text as a whole, as the format has it.
+    /// The line that the refusal names; 0 stands for the text as a whole, as the format has it.
     pub fn line(self) -> usize
         ensures { result ≡ (told self).line }
     {

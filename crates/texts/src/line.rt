@@ -1,8 +1,9 @@
 // A whole line: its word decides which reader reads what stands behind it.
 ghost use Rattle.std.specs.Prelude.{◌≡◌, find};
 ghost use Rattle.grammar.specs.Text.{rest};
-ghost use Rattle.lines.specs.Lines.{word as word_of, Line};
+ghost use Rattle.lines.specs.Lines.{word as word_of};
 ghost use Rattle.texts.specs.Words.{spells, Keywords, Starts};
+ghost use Rattle.lines.specs.Changes.{Line};
 
 use grammar::{Ground, Part, Reader};
 use lines::assign::assign;
@@ -54,7 +55,7 @@ fn keyword(word: &[u8]) -> Option<Keyword>
     spelt(word, &KEYWORDS)
 }
 
-// The word that a line or a question begins with.
+/// The word that a line or a question begins with.
 pub fn begins(r: &mut Reader) -> Option<Keyword>
     ensures { Starts (rest r.old) result (rest r.new) }
 {
@@ -64,7 +65,7 @@ pub fn begins(r: &mut Reader) -> Option<Keyword>
     }
 }
 
-// Reads the line that all of the rest is.
+/// Reads the line that all of the rest is.
 pub fn read_line(r: &mut Reader, extra: &mut Extra) -> Result<Change, Ground>
     ensures { Line (rest r.old) result extra.new }
 {

@@ -1,24 +1,25 @@
 -- The readers turn a phrase of the grammar into the nodes of its meaning.
 use Rattle.std.proofs.Common.{◌≡◌, ℕ, ◌+◌, ◌-◌, ◌*◌, ◌<◌, ◌≤◌, true, false, ltb, List, [], ◌∷◌, ◌++◌, length, decimal, sym, refl, ap, ◌∙◌, subst, append_assoc, arith, length-append, lt-ltb}
 use Rattle.std.proofs.lemmas.Bool.{cond-true, and_parts}
-use Rattle.grammar.specs.Text.{begins, begins_digit, got, none}
+use Rattle.meaning.specs.Measures as measures
+use Rattle.grammar.specs.Text.{number_limit, begins, begins_digit, got, none}
 use Rattle.meaning.specs.Sets.{UserSet, members, holders, only, nobody, union, intersection}
 use Rattle.grammar.specs.Phrase.{Kind, set, term, factor, users, Phrase, one, or, lone, and, a_role, a_permission, no_users, braces, parens, a_user, also, render, meaning, levels, operands, in_range, Short, Written, Ends}
 use Rattle.grammar.proofs.Numbers.{number_written}
 use Rattle.trees.specs.declared.nodes.Node.{Node}
 use Rattle.trees.specs.declared.nodes.Node.TheVariants.{Role, Permission, User, Nobody, Or, And}
-use Rattle.trees.specs.Reading.{Small, postfix, ok, bad, Reading, add, more, chain, limited, leaf_of, leaf_at, user_at, users_at, braces_at, factor_at, term_at, set_at}
+use Rattle.trees.specs.Reading.{most_nodes, Small, postfix, ok, bad, Reading, add, more, chain, limited, leaf_of, leaf_at, user_at, users_at, braces_at, factor_at, term_at, set_at}
 use Rattle.trees.proofs.Steps as S
 
-adds : (n : Node) (s : List ℕ) (ns : List Node) → length ns < 63 → add n s ns ≡ ok s (ns ++ n ∷ [])
-adds n s ns h = cond-true _ _ _ (lt-ltb (length ns) 63 h)
+adds : (n : Node) (s : List ℕ) (ns : List Node) → length ns < most_nodes → add n s ns ≡ ok s (ns ++ n ∷ [])
+adds n s ns h = cond-true _ _ _ (lt-ltb (length ns) most_nodes h)
 
 -- a sign, an item and the operator
 module _ (c : ℕ) (op : Node) (item : Reading) where
   abbrev To : List ℕ → List Node → List ℕ → List Node → Type 0
   To s ns x out = (f : ℕ) × (length x ≤ f) × (chain c op item s ns ≡ more c op item f x out)
 
-  joined : (s mid x : List ℕ) (ns pa pb : List Node) → To s ns (c ∷ (mid ++ x)) (ns ++ pa) → item (mid ++ x) (ns ++ pa) ≡ ok x ((ns ++ pa) ++ pb) → length ns + (length pa + (length pb + 1)) ≤ 63 → To s ns x (ns ++ (pa ++ (pb ++ op ∷ [])))
+  joined : (s mid x : List ℕ) (ns pa pb : List Node) → To s ns (c ∷ (mid ++ x)) (ns ++ pa) → item (mid ++ x) (ns ++ pa) ≡ ok x ((ns ++ pa) ++ pb) → length ns + (length pa + (length pb + 1)) ≤ most_nodes → To s ns x (ns ++ (pa ++ (pb ++ op ∷ [])))
   joined s mid x ns pa pb g i r =
       let l : length (ns ++ pa) ≡ length ns + length pa = length-append ns pa in
       let m : length ((ns ++ pa) ++ pb) ≡ length (ns ++ pa) + length pb = length-append (ns ++ pa) pb in
@@ -49,14 +50,14 @@ Goes term k s ns x out = To 38 And (factor_at k) s ns x out
 Goes factor k s ns x out = factor_at k s ns ≡ ok x out
 Goes users k s ns x out = To 44 Or user_at s ns x out
 
-leaf_goes : (mk : ℕ → Node) (limit n : ℕ) (x : List ℕ) (ns : List Node) → n < 100000 → ltb n limit ≡ true → begins_digit x ≡ false → length ns + 1 ≤ 63 → leaf_at mk limit (decimal n ++ x) ns ≡ ok x (ns ++ mk n ∷ [])
+leaf_goes : (mk : ℕ → Node) (limit n : ℕ) (x : List ℕ) (ns : List Node) → n < number_limit → ltb n limit ≡ true → begins_digit x ≡ false → length ns + 1 ≤ most_nodes → leaf_at mk limit (decimal n ++ x) ns ≡ ok x (ns ++ mk n ∷ [])
 unfolding leaf_at
 leaf_goes mk limit n x ns h r f l =
     ap (λ y. leaf_of mk (limited limit y) ns) (number_written n x h f) ∙ ap (λ y. leaf_of mk y ns) (cond-true _ (got n x) none r) ∙ adds (mk n) x ns (omega arith)
 
-user_goes : (n : ℕ) (x : List ℕ) (ns : List Node) → n < 100000 → ltb n 65536 ≡ true → begins_digit x ≡ false → length ns + 1 ≤ 63 → user_at (117 ∷ (decimal n ++ x)) ns ≡ ok x (ns ++ User n ∷ [])
+user_goes : (n : ℕ) (x : List ℕ) (ns : List Node) → n < number_limit → ltb n measures.users ≡ true → begins_digit x ≡ false → length ns + 1 ≤ most_nodes → user_at (117 ∷ (decimal n ++ x)) ns ≡ ok x (ns ++ User n ∷ [])
 unfolding user_at
-user_goes n x ns h r f l = leaf_goes User 65536 n x ns h r f l
+user_goes n x ns h r f l = leaf_goes User measures.users n x ns h r f l
 
 users_first : (us : Phrase users) (y : List ℕ) → begins 125 (render us ++ y) ≡ false
 users_first (a_user i) y = refl
@@ -73,7 +74,7 @@ set_ok : (n : ℕ) (s x : List ℕ) (ns out : List Node) → To 124 Or (term_at 
 unfolding set_at
 set_ok n s x ns out g e = finish 124 Or (term_at n) s x ns out g e
 
-empty_braces : (x : List ℕ) (ns : List Node) → length ns + 1 ≤ 63 → braces_at (125 ∷ x) ns ≡ ok x (ns ++ Nobody ∷ [])
+empty_braces : (x : List ℕ) (ns : List Node) → length ns + 1 ≤ most_nodes → braces_at (125 ∷ x) ns ≡ ok x (ns ++ Nobody ∷ [])
 unfolding braces_at
 empty_braces x ns m = adds Nobody x ns (omega arith)
 
@@ -85,7 +86,7 @@ users_ok : (s x : List ℕ) (ns out : List Node) → To 44 Or user_at s ns x out
 unfolding users_at
 users_ok s x ns out g e = finish 44 Or user_at s x ns out g e
 
-pub goes : {k : Kind} (p : Phrase k) (n : ℕ) (x : List ℕ) (ns : List Node) → Short (meaning p) → in_range (meaning p) ≡ true → levels p ≤ n → Follows k x → length ns + length (postfix (meaning p)) ≤ 63 → Goes k n (render p ++ x) ns x (ns ++ postfix (meaning p))
+pub goes : {k : Kind} (p : Phrase k) (n : ℕ) (x : List ℕ) (ns : List Node) → Short (meaning p) → in_range (meaning p) ≡ true → levels p ≤ n → Follows k x → length ns + length (postfix (meaning p)) ≤ most_nodes → Goes k n (render p ++ x) ns x (ns ++ postfix (meaning p))
 goes (one t) n x ns h r l f m = start 124 Or (term_at n) (render t ++ x) x ns _ (term_ok n (render t ++ x) x ns _ (goes t n x ns h r l f.1 m) f.0)
 goes (or s t) n x ns h r l f m =
     let q = and_parts (in_range (meaning s)) (in_range (meaning t)) r in
@@ -104,8 +105,8 @@ goes (and t g) n x ns h r l f m =
     let b = goes g n x (ns ++ postfix (meaning t)) h.1 q.1 (omega arith) f (omega arith) in
     subst (λ y. To 38 And (factor_at n) y ns x (ns ++ postfix (meaning (and t g)))) (sym (append_assoc (render t) (38 ∷ render g) x))
     (joined 38 And (factor_at n) (render t ++ 38 ∷ (render g ++ x)) (render g) x ns (postfix (meaning t)) (postfix (meaning g)) a b (omega arith))
-goes (a_role i) n x ns h r l f m = S.is_role n (114 ∷ (decimal i ++ x)) ns (decimal i ++ x) refl refl ∙ leaf_goes Role 64 i x ns h r f m
-goes (a_permission i) n x ns h r l f m = S.is_permission n (112 ∷ (decimal i ++ x)) ns (decimal i ++ x) refl refl refl ∙ leaf_goes Permission 32 i x ns h r f m
+goes (a_role i) n x ns h r l f m = S.is_role n (114 ∷ (decimal i ++ x)) ns (decimal i ++ x) refl refl ∙ leaf_goes Role measures.roles i x ns h r f m
+goes (a_permission i) n x ns h r l f m = S.is_permission n (112 ∷ (decimal i ++ x)) ns (decimal i ++ x) refl refl refl ∙ leaf_goes Permission measures.permissions i x ns h r f m
 goes no_users n x ns h r l f m = S.is_braces n (123 ∷ 125 ∷ x) ns (125 ∷ x) refl refl refl refl ∙ empty_braces x ns m
 goes (braces us) n x ns h r l f m =
     let a = goes us n (125 ∷ x) ns h r l refl m in
@@ -118,7 +119,7 @@ goes (parens s) n x ns h r l f m =
     ∙ S.opens n (40 ∷ (render s ++ 41 ∷ x)) ns (render s ++ 41 ∷ x) _ refl (S.inside_some n (render s ++ 41 ∷ x) ns (λ z. omega arith) ∙ set_ok (n - 1) (render s ++ 41 ∷ x) (41 ∷ x) ns _ a refl)
 goes (a_user i) n x ns h r l f m = start 44 Or user_at (117 ∷ (decimal i ++ x)) x ns _ (user_goes i x ns h r f m)
 goes (also us i) n x ns h r l f m =
-    let q = and_parts (in_range (meaning us)) (ltb i 65536) r in
+    let q = and_parts (in_range (meaning us)) (ltb i measures.users) r in
     let w = two (meaning us) (only i) Or in
     let e = length-append ns (postfix (meaning us)) in
     let v = users_levels us in
@@ -136,7 +137,7 @@ nodes_two nobody = refl
 nodes_two (union a b) = let l = two a b Or in let i = nodes_two a in let j = nodes_two b in omega arith
 nodes_two (intersection a b) = let l = two a b And in let i = nodes_two a in let j = nodes_two b in omega arith
 
-pub set_read : (p : Phrase set) (n : ℕ) (x : List ℕ) → Short (meaning p) → in_range (meaning p) ≡ true → levels p ≤ n → operands (meaning p) ≤ 32 → begins 38 x ≡ false → begins 124 x ≡ false → begins_digit x ≡ false → set_at n (render p ++ x) [] ≡ ok x (postfix (meaning p))
+pub set_read : (p : Phrase set) (n : ℕ) (x : List ℕ) → Short (meaning p) → in_range (meaning p) ≡ true → levels p ≤ n → operands (meaning p) ≤ measures.question_operands → begins 38 x ≡ false → begins 124 x ≡ false → begins_digit x ≡ false → set_at n (render p ++ x) [] ≡ ok x (postfix (meaning p))
 set_read p n x h r l o a b d = let z = nodes_two (meaning p) in set_ok n (render p ++ x) x [] _ (goes p n x [] h r l (a, d) (omega arith)) b
 
 pub whole : (p : Phrase set) (n : ℕ) (s x : List ℕ) → Written s p x → Ends x → Small n p → set_at n s [] ≡ ok x (postfix (meaning p))

@@ -2,3 +2,4 @@ pub mod Steps
 pub mod Build
 pub mod Whole
 pub mod Turns
+pub mod Single

@@ -5,6 +5,7 @@ use Rattle.trees.specs.declared.nodes.Node.{Node}
 use Rattle.grammar.specs.declared.grounds.Ground.{Ground}
 use Rattle.trees.specs.declared.nodes.Node.TheVariants.{Role, Permission}
 use Rattle.std.proofs.lemmas.Result.{err_from_is_err_and}
+use Rattle.meaning.specs.Measures as measures
 use Rattle.grammar.specs.Text.{ahead, behind, begins, number, got, none}
 use Rattle.grammar.proofs.Digits.{ahead_is, ahead_not}
 use Rattle.trees.specs.Reading.{Res, ok, bad, Reading, told, and_then, pick, add, more, chain, limited, leaf_of, leaf_at, users_at, braces_at, close, inside, factor_at, term_at, set_at}
@@ -72,11 +73,11 @@ module _ (k : ℕ) (s : List ℕ) (ns : List Node) where
   unfolding factor_at
   opens s1 R e i = pick_take 40 s s1 _ _ e ∙ ap (λ r. and_then r (close 41)) i
 
-  pub is_role : (s1 : List ℕ) → begins 40 s ≡ false → s ≡ 114 ∷ s1 → factor_at k s ns ≡ leaf_at Role 64 s1 ns
+  pub is_role : (s1 : List ℕ) → begins 40 s ≡ false → s ≡ 114 ∷ s1 → factor_at k s ns ≡ leaf_at Role measures.roles s1 ns
   unfolding factor_at
   is_role s1 a e = pick_not 40 s _ _ a ∙ pick_take 114 s s1 _ _ e
 
-  pub is_permission : (s1 : List ℕ) → begins 40 s ≡ false → begins 114 s ≡ false → s ≡ 112 ∷ s1 → factor_at k s ns ≡ leaf_at Permission 32 s1 ns
+  pub is_permission : (s1 : List ℕ) → begins 40 s ≡ false → begins 114 s ≡ false → s ≡ 112 ∷ s1 → factor_at k s ns ≡ leaf_at Permission measures.permissions s1 ns
   unfolding factor_at
   is_permission s1 a b e = pick_not 40 s _ _ a ∙ pick_not 114 s _ _ b ∙ pick_take 112 s s1 _ _ e
 

@@ -1,6 +1,7 @@
 -- How a set is read into nodes: an executable reading on lists.
-use Rattle.std.specs.Prelude.{◌≡◌, ℕ, zero, suc, ◌≤◌, true, cond, List, [], ◌∷◌, ◌++◌, length, Some, None, Ok, Err, Option, Result, ◌==◌, nat_lt}
+use Rattle.std.specs.Prelude.{◌≡◌, ℕ, zero, suc, ◌*◌, ◌-◌, ◌≤◌, true, cond, List, [], ◌∷◌, ◌++◌, length, Some, None, Ok, Err, Option, Result, ◌==◌, nat_lt}
 use Rattle.grammar.specs.Text.{Read, got, none, number}
+use Rattle.meaning.specs.Measures as measures
 use Rattle.meaning.specs.Sets.{UserSet, members, holders, only, nobody, union, intersection}
 use Rattle.grammar.specs.Phrase.{set, Phrase, meaning, levels, operands, in_range, Written, Ends}
 use Rattle.bounded.specs.Entries.{entries}
@@ -18,13 +19,17 @@ postfix nobody = Nobody ∷ []
 postfix (union l r) = postfix l ++ (postfix r ++ Or ∷ [])
 postfix (intersection l r) = postfix l ++ (postfix r ++ And ∷ [])
 
--- at most 63 nodes in a table
+-- a set has at most so many nodes: its operands, and the operators between them
+abbrev pub most_nodes : ℕ
+most_nodes = 2 * measures.question_operands - 1
+
+-- a table of nodes
 abbrev pub Nodes : Type 0
-Nodes = Bounded Node 63
+Nodes = Bounded Node most_nodes
 
 -- those in use
-abbrev pub listed : Nodes → List Node
-listed n = entries n
+abbrev pub nodes_in : Nodes → List Node
+nodes_in n = entries n
 
 -- what a reading comes to: what is left with the nodes, or nothing
 pub data Res : Type 0 where
@@ -47,7 +52,7 @@ pick c [] then other = other
 pick c (b ∷ bs) then other = cond (b == c) (then bs) other
 
 abbrev pub add : Node → Reading
-add n s ns = cond (nat_lt (length ns) 63) (ok s (ns ++ n ∷ [])) bad
+add n s ns = cond (nat_lt (length ns) most_nodes) (ok s (ns ++ n ∷ [])) bad
 
 abbrev pub more : ℕ → Node → Reading → ℕ → Reading
 more c op item zero s ns = ok s ns
@@ -72,7 +77,7 @@ unfoldable pub leaf_at : (ℕ → Node) → ℕ → Reading
 leaf_at mk limit s ns = leaf_of mk (limited limit (number s)) ns
 
 unfoldable pub user_at : Reading
-user_at s ns = pick 117 s (λ s1. leaf_at User 65536 s1 ns) bad
+user_at s ns = pick 117 s (λ s1. leaf_at User measures.users s1 ns) bad
 
 unfoldable pub users_at : Reading
 users_at = chain 44 Or user_at
@@ -83,8 +88,8 @@ braces_at s ns = pick 125 s (λ s1. add Nobody s1 ns) (and_then (users_at s ns) 
 abbrev pub factor_with : Reading → Reading
 factor_with inner s ns =
     pick 40 s (λ s1. and_then (inner s1 ns) (close 41))
-    (pick 114 s (λ s1. leaf_at Role 64 s1 ns)
-    (pick 112 s (λ s1. leaf_at Permission 32 s1 ns)
+    (pick 114 s (λ s1. leaf_at Role measures.roles s1 ns)
+    (pick 112 s (λ s1. leaf_at Permission measures.permissions s1 ns)
     (pick 123 s (λ s1. braces_at s1 ns)
     bad)))
 
@@ -112,11 +117,15 @@ set_at k = chain 124 Or (term_at k)
 pub record Small (k : ℕ) (p : Phrase set) : Type 0 where
   pub range : in_range (meaning p) ≡ true
   pub deep : levels p ≤ k
-  pub many : operands (meaning p) ≤ 32
+  pub many : operands (meaning p) ≤ measures.question_operands
+
+-- a text begins with one small set only, whatever phrases it is taken for
+abbrev pub OneReading : ℕ → List ℕ → Type 0
+OneReading k s = (x y : List ℕ) (p q : Phrase set) → Small k p → Small k q → Written s p x → Written s q y → Ends x → Ends y → (meaning p ≡ meaning q) × (x ≡ y)
 
 -- every small set that stands in the text comes out as its nodes, and what follows it is left
 abbrev pub NodesOf : UserSet → List ℕ → Option Nodes → List ℕ → Type 0
-NodesOf t y (Some n) x = (listed n ≡ postfix t) × (x ≡ y)
+NodesOf t y (Some n) x = (nodes_in n ≡ postfix t) × (x ≡ y)
 NodesOf t y None x = ⊥
 
 abbrev pub Built : ℕ → List ℕ → Option Nodes → List ℕ → Type 0

@@ -14,7 +14,7 @@ fn joins(node: Node) -> bool
 }
 
 impl UserTree {
-    // The set whose nodes these are; none where they are no set's.
+    /// The set whose nodes these are; none where they are no set's.
     pub fn new(nodes: Nodes) -> Option<UserTree>
         ensures made { Made nodes result }
         ensures inverse { Inverse }

@@ -1,10 +1,10 @@
 ghost use Rattle.std.specs.Prelude.{◌≡◌, []};
-ghost use Rattle.trees.specs.Reading.{listed};
+ghost use Rattle.trees.specs.Reading.{nodes_in};
 
 use bounded::Bounded;
 use meaning::QUESTION_OPERANDS;
 
-// How many nodes a set has at most: its operands, and the operators between them.
+/// How many nodes a set has at most: its operands, and the operators between them.
 pub const NODES: usize = 2 * QUESTION_OPERANDS - 1;
 
 #[derive(Clone, Copy, Debug, PartialEq, Eq)]
@@ -17,12 +17,12 @@ pub enum Node {
     And,
 }
 
-// Plain nodes in a fixed table, operators behind their operands.
+/// Plain nodes in a fixed table, operators behind their operands.
 pub type Nodes = Bounded<Node, NODES>;
 
-// No nodes.
+/// No nodes.
 pub fn no_nodes() -> Nodes
-    ensures { listed result ≡ [] }
+    ensures { nodes_in result ≡ [] }
 {
     Bounded::new(Node::Nobody)
 }

@@ -1,6 +1,6 @@
 ghost use Rattle.std.specs.Prelude.{◌≡◌, ℕ, ◌<◌, List};
 ghost use Rattle.grammar.specs.Text.{rest};
-ghost use Rattle.trees.specs.Reading.{Built, listed, told, add, leaf_at, user_at, users_at, braces_at, set_at, term_at, factor_at};
+ghost use Rattle.trees.specs.Reading.{Built, OneReading, told, add, leaf_at, user_at, users_at, braces_at, set_at, term_at, factor_at, nodes_in};
 ghost use Rattle.trees.specs.Builds.{Builds};
 ghost use Rattle.trees.specs.declared.nodes.Node.{Node as ANode};
 
@@ -16,7 +16,7 @@ struct Builder<'a> {
 }
 
 fn push(nodes: &mut Nodes, node: Node) -> Result<(), Ground>
-    ensures { (s : List ℕ) → add node s (listed nodes.old) ≡ told result s (listed nodes.new) }
+    ensures { (s : List ℕ) → add node s (nodes_in nodes.old) ≡ told result s (nodes_in nodes.new) }
 {
     nodes.push(node).map_err(|_| Ground::Measure)
 }
@@ -144,9 +144,11 @@ impl<'a> Builder<'a> {
     }
 }
 
-// Reads the set at the place into nodes.
+/// Reads the set at the place into nodes, and leaves what follows it. There is none where no set stands there whose numbers
+/// are in range, with at most so many levels of parentheses and at most 32 operands. Such a text begins with one set only.
 pub fn side(r: &mut Reader, levels: u8) -> Option<Nodes>
-    ensures { Built levels (rest r.old) result (rest r.new) }
+    ensures built { Built levels (rest r.old) result (rest r.new) }
+    ensures one { OneReading levels (rest r.old) }
 {
     let mut builder = Builder {
         reader: Reader::new(r.rest(), r.line()),

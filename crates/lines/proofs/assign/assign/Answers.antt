@@ -3,10 +3,10 @@ use Rattle.std.specs.Option.{is_some}
 use Rattle.grammar.specs.Text.{rest}
 use Rattle.grammar.specs.declared.grounds.Ground.TheVariants.{Syntax}
 use Rattle.lines.specs.declared.keyword.Keyword.TheVariants.{Assign}
-use Rattle.lines.specs.Lines.{Body}
 use Rattle.lines.specs.Clauses.{Assigns, Conditions}
 use Rattle.lines.proofs.Assigning.{assign_syntax, assign_verdict, admin_small, names_fit, assign_built, assign_told}
 use Rattle.lines.proofs.assign.assign.Goals as goal
+use Rattle.lines.specs.Changes.{Body}
 
 pub returns-in_err-m : goal.returns-in_err-m
 returns-in_err-m c =

@@ -1,4 +1,5 @@
 use Rattle.std.proofs.Common.{◌≡◌, ◌/◌, ◌<◌, true, false, length, Err, refl, ap, ◌∙◌, rules, arith}
+use Rattle.lines.specs.Lists.{user_words}
 use Rattle.words.specs.Words.{bits}
 use Rattle.words.proofs.Rows.{put_there}
 use Rattle.grammar.specs.declared.grounds.Ground.TheVariants.{Range}
@@ -14,7 +15,7 @@ returns-in_err-user c good ms l h =
 pub returns : goal.returns
 returns c good ms l h =
     let n = rw c.in_ok-user.ensures.ok_part at c.user.ensures in
-    let wide : length c.args.extra.now.named ≡ 1024 = h.wide in
+    let wide : length c.args.extra.now.named ≡ user_words = h.wide in
     let inside : c.args.number / 64 < length c.args.extra.now.named = omega arith in (
       true,
       refl,

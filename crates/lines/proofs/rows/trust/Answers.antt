@@ -1,9 +1,9 @@
 use Rattle.std.proofs.Common.{◌≡◌, Err, sym, subst, rules}
 use Rattle.grammar.specs.Text.{rest}
 use Rattle.lines.specs.declared.keyword.Keyword.TheVariants.{Trust}
-use Rattle.lines.specs.Lines.{Body, says_trust}
 use Rattle.lines.proofs.Judging.{retold}
 use Rattle.lines.proofs.rows.trust.Goals as goal
+use Rattle.lines.specs.Changes.{says_trust, Body}
 
 pub returns-in_err-users : goal.returns-in_err-users
 returns-in_err-users c =

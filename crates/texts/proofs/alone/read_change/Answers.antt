@@ -1,6 +1,6 @@
 use Rattle.std.proofs.Common.{◌≡◌, sym, subst, rules}
-use Rattle.texts.specs.Answers.{Answer, Orders, changes}
-use Rattle.texts.specs.Sentences.{Lined}
+use Rattle.texts.specs.Answers.{Answer, changes}
+use Rattle.texts.specs.Sentences.{Lined, Orders}
 use Rattle.texts.proofs.Single.{carried, carry}
 use Rattle.texts.proofs.alone.read_change.Goals as goal
 

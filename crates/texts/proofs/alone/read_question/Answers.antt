@@ -1,7 +1,7 @@
 use Rattle.std.proofs.Common.{◌≡◌, sym, subst, rules}
 use Rattle.lines.specs.Lines.{questions}
-use Rattle.texts.specs.Answers.{Answer, Asks}
-use Rattle.texts.specs.Sentences.{Lined}
+use Rattle.texts.specs.Answers.{Answer}
+use Rattle.texts.specs.Sentences.{Lined, Asks}
 use Rattle.texts.proofs.Single.{carried, carry}
 use Rattle.texts.proofs.alone.read_question.Goals as goal
 

@@ -1,15 +1,16 @@
 use Rattle.std.proofs.Common.{◌≡◌, [], sym, ap₂, ◌∙◌}
 use Rattle.grammar.specs.Text.{rest}
-use Rattle.trees.specs.Reading.{set_at, listed}
+use Rattle.trees.specs.Reading.{set_at, nodes_in}
 use Rattle.trees.proofs.Build.{read_ok, read_bad}
+use Rattle.trees.proofs.Single.{one_reading}
 use Rattle.trees.proofs.read.side.Goals as goal
 use Rattle.trees.proofs.read.side.Goals.{After-set}
 
-begins : (c : After-set) → set_at c.args.levels (rest c.args.r.now) [] ≡ set_at c.args.levels (rest c.new.result) (listed c.no_nodes.result)
+begins : (c : After-set) → set_at c.args.levels (rest c.args.r.now) [] ≡ set_at c.args.levels (rest c.new.result) (nodes_in c.no_nodes.result)
 begins c = ap₂ (set_at c.args.levels) (sym (c.new.ensures.rest ∙ c.rest.ensures)) (sym c.no_nodes.ensures)
 
 pub returns-in-Ok : goal.returns-in-Ok
-returns-in-Ok c = λ p y w e g. read_ok p _ _ _ _ _ w e g (begins (goal.at.returns-in-Ok c).After-set ∙ c.in-Ok.ensures.read)
+returns-in-Ok c = record { built = λ p y w e g. read_ok p _ _ _ _ _ w e g (begins (goal.at.returns-in-Ok c).After-set ∙ c.in-Ok.ensures.read); one = one_reading _ _ }
 
 pub returns-in-Err : goal.returns-in-Err
-returns-in-Err c = λ p y w e g. read_bad p _ _ _ w e g (begins (goal.at.returns-in-Err c).After-set ∙ c.in-Err.ensures.read)
+returns-in-Err c = record { built = λ p y w e g. read_bad p _ _ _ w e g (begins (goal.at.returns-in-Err c).After-set ∙ c.in-Err.ensures.read); one = one_reading _ _ }

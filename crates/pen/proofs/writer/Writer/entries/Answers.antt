@@ -1,10 +1,10 @@
 use Rattle.std.proofs.Common.{◌≡◌, sym, subst, ◌∙◌, add-one, arith}
-use Rattle.lines.specs.Entries.{entries}
 use Rattle.pen.specs.Ascending.{ascending}
 use Rattle.pen.specs.Puts.{Wrote}
 use Rattle.pen.proofs.Join.{entry_first, entry_yes, entry_no, join, here}
 use Rattle.pen.proofs.writer.Writer.entries.Goals as goal
 use Rattle.pen.proofs.writer.Writer.entries.Goals.{then-passes, else-passes}
+use Rattle.lines.specs.Entries.{entry_bytes}
 
 pub loop-k-init : goal.loop-k-init
 loop-k-init g c f h = entry_first c.args.letter f _
@@ -20,4 +20,4 @@ loop-k-preserved g c f h =
     ]
 
 pub returns : goal.returns
-returns g c f h = let e : c.loop-k.k ≡ c.args.limit = omega arith in subst (λ k. Wrote c.args.self.now (entries c.args.letter (ascending f k)) c.loop-k.self) e (c.loop-k.invariant f h)
+returns g c f h = let e : c.loop-k.k ≡ c.args.limit = omega arith in subst (λ k. Wrote c.args.self.now (entry_bytes c.args.letter (ascending f k)) c.loop-k.self) e (c.loop-k.invariant f h)

@@ -2,12 +2,12 @@ use Rattle.std.proofs.Common.{◌≡◌, ◌/◌, ◌<◌, map, length, refl, ap
 use Rattle.meaning.specs.Lists.{listed as named}
 use Rattle.words.specs.Words.{bits}
 use Rattle.words.proofs.Rows.{put_there}
-use Rattle.lines.specs.Lists.{number_of}
+use Rattle.lines.specs.Lists.{user_words, number_of}
 use Rattle.pen.proofs.Naming.{none_named, one_named}
 use Rattle.pen.proofs.writer.Writer.users.Goals as goal
 
 pub loop-user-init : goal.loop-user-init
-loop-user-init c = (refl, none_named 1024)
+loop-user-init c = (refl, none_named user_words)
 
 pub loop-user-preserved : goal.loop-user-preserved
 loop-user-preserved c =

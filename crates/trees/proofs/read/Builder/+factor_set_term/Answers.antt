@@ -1,7 +1,7 @@
 use Rattle.std.proofs.Common.{length, refl, ap, ◌∙◌, arith, rules}
 use Rattle.trees.specs.declared.nodes.Node.TheVariants.{Or, And, Role, Permission}
 use Rattle.grammar.specs.Text.{rest, begins}
-use Rattle.trees.specs.Reading.{listed, ok, bad, set_at, term_at, factor_at}
+use Rattle.trees.specs.Reading.{ok, bad, set_at, term_at, factor_at, nodes_in}
 use Rattle.trees.proofs.Steps.{exit, opens, is_role, is_permission, is_braces, is_none, inside_none, inside_some, pick_take, pick_not, passed, unlike}
 use Rattle.trees.proofs.Turns.{begun, begun_bad, item_bad, turned, add_bad, ended}
 use Rattle.trees.proofs.read.Builder.+factor_set_term.Goals as goal
@@ -88,7 +88,7 @@ factor-returns-else-take t c =
     let h = c.in_ok-set-in-Some-eq40.ensures in
     let l = c.if-take.ensures.read in
     record {
-      read = opens _ _ _ _ _ k (inside_some _ _ _ c.if-levels-eq0.false ∙ h.read) ∙ pick_not 41 (rest c.set.new.self.reader) (λ s1. ok s1 (listed c.set.new.self.nodes)) bad l.0;
+      read = opens _ _ _ _ _ k (inside_some _ _ _ c.if-levels-eq0.false ∙ h.read) ∙ pick_not 41 (rest c.set.new.self.reader) (λ s1. ok s1 (nodes_in c.set.new.self.nodes)) bad l.0;
       less = omega (arith, ap length k, h.less, ap length l.1);
     }
 
@@ -96,26 +96,26 @@ pub factor-returns-in-Some-r : goal.factor-returns-in-Some-r
 factor-returns-in-Some-r t c =
     let k = passed _ _ _ 114 c.sign.ensures (search rules) c.skip-in-Some-r.ensures.read in
     let h = c.leaf.ensures Role (search rules) in
-    record { read = is_role c.args.levels (rest c.args.self.now.reader) (listed c.args.self.now.nodes) _ (ap (begins 40) k) k ∙ h.read; less = omega (arith, ap length k, h.less) }
+    record { read = is_role c.args.levels (rest c.args.self.now.reader) (nodes_in c.args.self.now.nodes) _ (ap (begins 40) k) k ∙ h.read; less = omega (arith, ap length k, h.less) }
 
 pub factor-returns-in-Some-p : goal.factor-returns-in-Some-p
 factor-returns-in-Some-p t c =
     let k = passed _ _ _ 112 c.sign.ensures (search rules) c.skip-in-Some-p.ensures.read in
     let h = c.leaf-in-Some-p.ensures Permission (search rules) in
-    record { read = is_permission c.args.levels (rest c.args.self.now.reader) (listed c.args.self.now.nodes) _ (ap (begins 40) k) (ap (begins 114) k) k ∙ h.read; less = omega (arith, ap length k, h.less) }
+    record { read = is_permission c.args.levels (rest c.args.self.now.reader) (nodes_in c.args.self.now.nodes) _ (ap (begins 40) k) (ap (begins 114) k) k ∙ h.read; less = omega (arith, ap length k, h.less) }
 
 pub factor-returns-in-Some-eq123 : goal.factor-returns-in-Some-eq123
 factor-returns-in-Some-eq123 t c =
     let k = passed _ _ _ 123 c.sign.ensures (search rules) c.skip-in-Some-eq123.ensures.read in
     let h = c.braces.ensures in
-    record { read = is_braces c.args.levels (rest c.args.self.now.reader) (listed c.args.self.now.nodes) _ (ap (begins 40) k) (ap (begins 114) k) (ap (begins 112) k) k ∙ h.read; less = omega (arith, ap length k, h.less) }
+    record { read = is_braces c.args.levels (rest c.args.self.now.reader) (nodes_in c.args.self.now.nodes) _ (ap (begins 40) k) (ap (begins 114) k) (ap (begins 112) k) k ∙ h.read; less = omega (arith, ap length k, h.less) }
 
 pub factor-returns-in_default : goal.factor-returns-in_default
 factor-returns-in_default t c =
     let no = unlike (rest c.args.self.now.reader) c.sign.result in
-    record { read = is_none c.args.levels (rest c.args.self.now.reader) (listed c.args.self.now.nodes) (no 40 c.sign.ensures (search rules)) (no 114 c.sign.ensures (search rules)) (no 112 c.sign.ensures (search rules)) (no 123 c.sign.ensures (search rules)); less = omega arith }
+    record { read = is_none c.args.levels (rest c.args.self.now.reader) (nodes_in c.args.self.now.nodes) (no 40 c.sign.ensures (search rules)) (no 114 c.sign.ensures (search rules)) (no 112 c.sign.ensures (search rules)) (no 123 c.sign.ensures (search rules)); less = omega arith }
 
 pub factor-returns-in_default-2 : goal.factor-returns-in_default-2
 factor-returns-in_default-2 t c =
     let no = unlike (rest c.args.self.now.reader) c.sign.result in
-    record { read = is_none c.args.levels (rest c.args.self.now.reader) (listed c.args.self.now.nodes) (no 40 c.sign.ensures (search rules)) (no 114 c.sign.ensures (search rules)) (no 112 c.sign.ensures (search rules)) (no 123 c.sign.ensures (search rules)); less = omega arith }
+    record { read = is_none c.args.levels (rest c.args.self.now.reader) (nodes_in c.args.self.now.nodes) (no 40 c.sign.ensures (search rules)) (no 114 c.sign.ensures (search rules)) (no 112 c.sign.ensures (search rules)) (no 123 c.sign.ensures (search rules)); less = omega arith }

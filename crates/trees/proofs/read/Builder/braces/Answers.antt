@@ -1,6 +1,6 @@
 use Rattle.std.proofs.Common.{length, sym, ap, ◌∙◌, arith}
 use Rattle.grammar.specs.Text.{rest}
-use Rattle.trees.specs.Reading.{listed, ok, bad, braces_at}
+use Rattle.trees.specs.Reading.{ok, bad, braces_at, nodes_in}
 use Rattle.trees.proofs.Steps.{exit, pick_take, pick_not, brace_users}
 use Rattle.trees.proofs.read.Builder.braces.Goals as goal
 
@@ -28,4 +28,4 @@ returns-else-take-2 c =
     let t = c.if-take.ensures.read in
     let k = c.in_ok-users.ensures in
     let l = c.if-take-2.ensures.read in
-    record { read = brace_users _ _ _ _ t.0 (sym t.1) k.read ∙ pick_not 125 (rest c.users.new.self.reader) (λ s1. ok s1 (listed c.users.new.self.nodes)) bad l.0; less = omega (arith, ap length t.1, k.less, ap length l.1) }
+    record { read = brace_users _ _ _ _ t.0 (sym t.1) k.read ∙ pick_not 125 (rest c.users.new.self.reader) (λ s1. ok s1 (nodes_in c.users.new.self.nodes)) bad l.0; less = omega (arith, ap length t.1, k.less, ap length l.1) }

@@ -1,6 +1,6 @@
 use Rattle.std.proofs.Common.{sym, ap, ◌∙◌}
 use Rattle.grammar.specs.Text.{rest}
-use Rattle.trees.specs.Reading.{add, listed}
+use Rattle.trees.specs.Reading.{add, nodes_in}
 use Rattle.trees.proofs.Steps.{no_number, too_large, small_enough}
 use Rattle.trees.proofs.read.Builder.leaf.Goals as goal
 
@@ -14,6 +14,6 @@ pub returns : goal.returns
 returns g c = λ made h.
     let k = h c.in-Some.n c.node.result c.if-n-limit.false c.node.ensures in
     record {
-      read = small_enough made _ _ (rest c.number.new.self) _ c.in-Some.n c.in-Some.ensures.read c.if-n-limit.false ∙ ap (λ n. add n (rest c.number.new.self) (listed c.args.self.now.nodes)) (sym k) ∙ c.push.ensures (rest c.number.new.self);
+      read = small_enough made _ _ (rest c.number.new.self) _ c.in-Some.n c.in-Some.ensures.read c.if-n-limit.false ∙ ap (λ n. add n (rest c.number.new.self) (nodes_in c.args.self.now.nodes)) (sym k) ∙ c.push.ensures (rest c.number.new.self);
       less = c.number.ensures.less;
     }

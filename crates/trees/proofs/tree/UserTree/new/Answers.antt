@@ -1,10 +1,10 @@
 use Rattle.std.proofs.Common.{◌≡◌, ℕ, ◌+◌, Bool, true, eqb, drop, sym, refl, ap, ◌∙◌, arith, ne_eqb}
 use Rattle.trees.specs.declared.nodes.Node.TheVariants.{Role}
-use Rattle.trees.specs.Reading.{listed}
 use Rattle.trees.specs.Trees.{balanced}
 use Rattle.trees.proofs.Whole.{turn_leaf, turn_low, turn_join, balanced_end, refused, balanced_whole, inverse}
 use Rattle.trees.proofs.tree.UserTree.new.Goals as goal
 use Rattle.trees.proofs.tree.UserTree.new.Goals.{else-joins, then-joins+else-height-lt-PAIR, Then-height-eq1}
+use Rattle.trees.specs.Reading.{nodes_in}
 
 pub returns-then-height-lt-PAIR : goal.returns-then-height-lt-PAIR
 returns-then-height-lt-PAIR c =
@@ -23,7 +23,7 @@ loop-node-preserved c =
       )
     ]
 
-good : (c : Then-height-eq1) → balanced 0 (listed c.args.nodes) ≡ true
+good : (c : Then-height-eq1) → balanced 0 (nodes_in c.args.nodes) ≡ true
 good c = ap (balanced 0) (sym c.entries-node-items.ensures.all) ∙ c.loop-node.invariant.1 ∙ balanced_end _ c.loop-node.node-index c.loop-node.height c.loop-node-test.false ∙ ap (λ h. eqb h 1) c.if-height-eq1.true
 
 pub invariant_of-result : goal.invariant_of-result
