@@ -1,3 +1,4 @@
 pub mod Machine
+pub mod Telling
 pub mod Viewing
 pub mod Opening

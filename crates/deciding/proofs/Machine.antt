@@ -1,11 +1,11 @@
 -- A stack of bits answers as the set that the nodes say.
 use Rattle.std.proofs.Common.{◌≡◌, ℕ, zero, suc, ◌+◌, ◌*◌, ◌/◌, ◌%◌, ◌^◌, ◌<◌, ◌≤◌, min, max, Bool, true, false, cond, ◌&&◌, ◌||◌, T, eqb, List, [], ◌∷◌, length, Some, None, Decides, Option, sym, refl, ap, ◌∙◌, subst, ap₂, ⊎_elim, pow-suc, add-one, arith}
+use Rattle.meaning.specs.Measures.{roles}
 use Rattle.std.proofs.lemmas.List.{get_or_past}
 use Rattle.std.proofs.lemmas.Bool.Decides.{nat_tests}
 use Rattle.theory.specs.Tests.{some}
 use Rattle.meaning.specs.Membership.{Row}
 use Rattle.meaning.specs.Sets.{UserSet, members, holders, only, nobody, union, intersection, as_condition}
-use Rattle.theory.specs.Delegation.{member_test, meets_test}
 use Rattle.meaning.proofs.Tests.{agree, both, first, second, as_true, as_test}
 use Rattle.theory.proofs.Tests.{some_at, some_gives}
 use Rattle.rbac.specs.declared.sets.RoleSet.{RoleSet}
@@ -18,7 +18,7 @@ use Rattle.trees.specs.declared.nodes.Node.TheVariants.{Role as RoleNode, Permis
 use Rattle.trees.specs.Trees.{balanced, decoded, decode}
 use Rattle.trees.proofs.Whole.{balanced_whole, inverse}
 use Rattle.tables.specs.View.{or_nobody}
-use Rattle.deciding.specs.Masked.{down_of, leaf_says, in_test, pushed}
+use Rattle.deciding.specs.Masked.{member_test, meets_test, down_of, leaf_says, in_test, pushed}
 
 -- what the nodes leave on a stack of bits
 abbrev pub bits : (Node → Bool) → List Node → ℕ → ℕ
@@ -100,13 +100,13 @@ pushed_below Or b s i h = let e = pow_more i in omega arith
 pushed_below And b s i h = let e = pow_more i in omega arith
 
 -- a role in both sets, as a test
-pub shared : (a b : RoleSet) (r : Bool) → Decides r ((k : ℕ) × T (roles_of a k) × T (roles_of b k)) → r ≡ some 64 (λ q. roles_of a q && roles_of b q)
-shared a b r d = agree r (some 64 (λ q. roles_of a q && roles_of b q))
-    (λ t. let (k, x, y) = d.0 (as_true r t) in some_at 64 (λ q. roles_of a q && roles_of b q) k (small a k x) (both (roles_of a k) (roles_of b k) x y))
-    (λ t. let (k, l, h) = some_gives 64 (λ q. roles_of a q && roles_of b q) t in as_test r (d.1 (k, first (roles_of a k) (roles_of b k) h, second (roles_of a k) (roles_of b k) h)))
+pub shared : (a b : RoleSet) (r : Bool) → Decides r ((k : ℕ) × T (roles_of a k) × T (roles_of b k)) → r ≡ some roles (λ q. roles_of a q && roles_of b q)
+shared a b r d = agree r (some roles (λ q. roles_of a q && roles_of b q))
+    (λ t. let (k, x, y) = d.0 (as_true r t) in some_at roles (λ q. roles_of a q && roles_of b q) k (small a k x) (both (roles_of a k) (roles_of b k) x y))
+    (λ t. let (k, l, h) = some_gives roles (λ q. roles_of a q && roles_of b q) t in as_test r (d.1 (k, first (roles_of a k) (roles_of b k) h, second (roles_of a k) (roles_of b k) h)))
   where
-    small : (s : RoleSet) (k : ℕ) → T (roles_of s k) → k < 64
-    small s k h = ⊎_elim (λ (l : k < 64). l) (λ (l : 64 ≤ k). absurd (subst T (roles_past s k l) h)) (Rattle.std.proofs.lemmas.Bool.cases_lt k 64)
+    small : (s : RoleSet) (k : ℕ) → T (roles_of s k) → k < roles
+    small s k h = ⊎_elim (λ (l : k < roles). l) (λ (l : roles ≤ k). absurd (subst T (roles_past s k l) h)) (Rattle.std.proofs.lemmas.Bool.cases_lt k roles)
 
 and_none : (b : Bool) → (b && false) ≡ false
 and_none true = refl
@@ -118,14 +118,14 @@ some_none (suc n) f h = ap₂ ◌||◌ (h n) (some_none n f h)
 
 -- past the last mask there is no member
 pub past_none : (masks : List RoleSet) (row : Row) (r : ℕ) → length masks ≤ r → member_test (down_of masks) row r ≡ false
-past_none masks row r h = some_none 64 (λ q. row q && down_of masks q r)
+past_none masks row r h = some_none roles (λ q. row q && down_of masks q r)
     (λ q. ap (λ m. row q && roles_of m q) (get_or_past masks r no_roles h) ∙ ap (λ b. row q && b) (ap (λ f. f q) roles_none) ∙ and_none (row q))
 
 -- of nobody in particular, a set says what it says as a condition
-pub as_condition_lem : (seniors givers : List RoleSet) (row : Row) → length seniors ≤ 64 → (x : UserSet) → in_test seniors givers None row x ≡ meets_test (down_of seniors) row (as_condition x)
+pub as_condition_lem : (seniors givers : List RoleSet) (row : Row) → length seniors ≤ roles → (x : UserSet) → in_test seniors givers None row x ≡ meets_test (down_of seniors) row (as_condition x)
 as_condition_lem seniors givers row l (members r) = refl
-as_condition_lem seniors givers row l (holders n) = sym (past_none seniors row 64 l)
-as_condition_lem seniors givers row l (only u) = sym (past_none seniors row 64 l)
-as_condition_lem seniors givers row l nobody = sym (past_none seniors row 64 l)
+as_condition_lem seniors givers row l (holders n) = sym (past_none seniors row roles l)
+as_condition_lem seniors givers row l (only u) = sym (past_none seniors row roles l)
+as_condition_lem seniors givers row l nobody = sym (past_none seniors row roles l)
 as_condition_lem seniors givers row l (union x y) = ap₂ ◌||◌ (as_condition_lem seniors givers row l x) (as_condition_lem seniors givers row l y)
 as_condition_lem seniors givers row l (intersection x y) = ap₂ ◌&&◌ (as_condition_lem seniors givers row l x) (as_condition_lem seniors givers row l y)

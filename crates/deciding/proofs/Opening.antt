@@ -1,25 +1,59 @@
 -- What the tests of the code say of an open step, and which steps are not worth a try.
-use Rattle.std.proofs.Common.{◌≡◌, ℕ, ◌+◌, ◌*◌, ◌/◌, ◌%◌, ◌<◌, ◌≤◌, Bool, true, false, not, ◌&&◌, ◌||◌, T, ltb, List, length, get_or, sym, refl, ap, ◌∙◌, subst, ap₂, Option, Some, None, arith, ltb→lt, lt→ltb}
-use mathlib.Core.Path.{fun_ext}
-use Rattle.std.specs.Option.{is_some}
+use Rattle.std.proofs.Common.{◌≡◌, ℕ, suc, ◌+◌, ◌*◌, ◌/◌, ◌%◌, ◌<◌, ◌≤◌, Bool, true, false, not, ◌&&◌, ◌||◌, T, ltb, List, [], ◌∷◌, map, length, get_or, take, sym, refl, ap, ◌∙◌, subst, ap₂, Option, None, Ok, Err, Result, arith, ltb→lt}
+use mathlib.Core.Path.{subst⁻¹, fun_ext}
+use Rattle.std.proofs.Math.ListN.{get_or-map}
 use Rattle.std.proofs.lemmas.Bool.{both_ways}
 use Rattle.words.specs.Words.{bit, bits}
-use Rattle.steps.specs.Steps.{Leap}
-use Rattle.theory.specs.Tests.{some}
-use Rattle.meaning.specs.Rules.{Policy, AssignRule}
-use Rattle.theory.specs.Delegation.{member_test, meets_test, row_at, rule_of, slot_of, role_of}
-use Rattle.theory.proofs.Tests.{some_at, some_gives}
-use Rattle.meaning.proofs.Tests.{as_true, as_test, as_false, deny}
+use Rattle.steps.specs.Steps.{Facts, Leap, made}
+use Rattle.steps.specs.Closing.{ClosedWith, Closes}
+use Rattle.steps.specs.declared.short.TooShort.{TooShort}
+use Rattle.std.specs.Result.{IfOk}
+use Rattle.meaning.specs.Measures.{users, roles, list_places}
+use Rattle.meaning.specs.Lists.{listed, Apart, Nth}
+use Rattle.meaning.specs.Membership.{User, Role, Member}
+use Rattle.meaning.specs.Rules.{AssignRule, Policy, Meets}
+use Rattle.meaning.proofs.Tests.{first, second, both, as_true, as_test, deny}
+use Rattle.meaning.proofs.Numbered.{at_nth}
+use Rattle.theory.specs.Delegation.{user_of, said_row, said, rule_number, slot_of, role_of, MayGive, RunAmong}
+use Rattle.theory.proofs.Delegate.{said_at, run_among}
+use Rattle.theory.proofs.Places.{place, at_listed, at_place}
 use Rattle.rbac.specs.declared.sets.RoleSet.{RoleSet}
-use Rattle.deciding.specs.declared.plan.Slot.{Slot}
 use Rattle.rbac.specs.Roles.{roles_of}
 use Rattle.rbac.proofs.Masks.{of, roles_low}
-use Rattle.deciding.specs.Masked.{down_of}
-use Rattle.deciding.specs.Slots.{user_at}
-use Rattle.deciding.specs.Delegates.{FirstBelow, may_act, delegates}
+use Rattle.bounded.specs.Entries.{entries}
+use Rattle.bounded.proofs.Listing.{few}
+use Rattle.tables.specs.declared.entries.AssignEntry.{AssignEntry}
+use Rattle.tables.specs.declared.tables.Tables.{Tables}
+use Rattle.tables.specs.View.{policy_of, assign_of}
+use Rattle.tables.proofs.Listing.{map_nth, nth_map}
+use Rattle.tables.proofs.Viewing.{assigns_are}
+use Rattle.deciding.specs.declared.plan.Slot.{Slot}
+use Rattle.deciding.specs.declared.runs.RunStep.{RunStep}
+use Rattle.deciding.specs.declared.delegation.Delegation.{Delegation}
+use Rattle.deciding.specs.Masked.{TellsSenior, member_test, meets_test, down_of}
+use Rattle.deciding.specs.Slots.{slots_of, no_slot, slot_at, slot_user, users_of, Distinct}
+use Rattle.deciding.specs.Delegates.{adding, delegates, MayAct, FoundActor}
+use Rattle.deciding.proofs.Telling.{member_test_lem, meets_yes, yes_meets, small, sure_tells}
+use Rattle.deciding.proofs.Viewing.{map_length, rules_are}
+
+-- one number has one entry
+one_nth : {A : Type 0} {k : ℕ} {x y : A} {xs : List A} → Nth k x xs → Nth k y xs → x ≡ y
+one_nth {x = x} {xs = xs} n m =
+    let (i, e, _, a) = at_nth x n in
+    let (j, f, _, b) = at_nth x m in
+    let same : j ≡ i = omega arith in
+    sym a ∙ ap (λ (k : ℕ). get_or xs k x) (sym same) ∙ b
+
+-- no number is past the last
+pub nth_below : {A : Type 0} {k : ℕ} {x : A} {xs : List A} → Nth k x xs → k ≤ length xs
+nth_below {x = x} n = let (i, e, l, _) = at_nth x n in omega arith
+
+-- an entry is a rule of the policy
+pub policy_nth : (t : Tables) (k : ℕ) (e : AssignEntry) → Nth k e (entries t.assigns) → Nth k (assign_of e) (policy_of t).assigns
+policy_nth t k e n = subst⁻¹ (λ (rules : List AssignRule). Nth k (assign_of e) rules) (assigns_are t) (nth_map assign_of n)
 
 -- a word of the facts is a row
-pub row_is : (ws : List ℕ) (i : ℕ) → row_at (bits ws) i ≡ roles_of (of (get_or ws i 0))
+pub row_is : (ws : List ℕ) (i : ℕ) → said_row (bits ws) i ≡ roles_of (of (get_or ws i 0))
 unfolding bits roles_of
 row_is ws i = fun_ext (λ r. at r (ltb r 64) refl)
   where
@@ -31,190 +65,202 @@ row_is ws i = fun_ext (λ r. at r (ltb r 64) refl)
         let m : (64 * i + r) % 64 ≡ r = omega arith in
         ap₂ (λ x y. bit (get_or ws x 0) y) d m
 
--- the same row, by a set made from the word
-pub row_of : (ws : List ℕ) (i : ℕ) (s : RoleSet) → s.word ≡ get_or ws i 0 → row_at (bits ws) i ≡ roles_of s
-row_of ws i s e = row_is ws i ∙ ap (λ w. roles_of (of w)) (sym e)
-
 -- a fact is a role of its slot
 pub fact_is : (ws : List ℕ) (n : ℕ) → bits ws n ≡ roles_of (of (get_or ws (n / 64) 0)) (n % 64)
 unfolding bits
 fact_is ws n = sym (roles_low (get_or ws (n / 64) 0) (n % 64) (omega arith))
 
--- some number passes just where the first one is below
-pub first_some : (test : ℕ → Bool) (n : ℕ) (r : Option ℕ) → FirstBelow test n r → is_some r ≡ some n test
-first_some test n (Some i) (l, here, before) = sym (as_true (some n test) (some_at n test i l (as_test (test i) here)))
-first_some test n None none = sym (as_false (some n test) (deny (some n test) (λ h. let (k, lt, t) = some_gives n test h in both_ways (test k) (none k lt) (as_true (test k) t))))
+-- users of slots
+pub user_is : (slots : List Slot) (i : ℕ) → user_of (users_of slots) i ≡ slot_user slots i
+user_is slots i = get_or-map (λ (x : Slot). x.user.number) slots i no_slot
 
--- so there is one where some number passes
-pub some_first : (test : ℕ → Bool) (n : ℕ) → FirstBelow test n None → some n test ≡ true → ⊥
-some_first test n none h = both_ways (some n test) (sym (first_some test n None none)) h
+-- where no user has two slots, none is listed twice
+pub slots_apart : (slots : List Slot) → Distinct slots → Apart (users_of slots)
+slots_apart [] d = tt
+slots_apart (x ∷ xs) d = (
+  deny (listed (users_of xs) x.user.number) (λ h.
+      let (l, e) = at_place (users_of xs) x.user.number h in
+      let i = place (users_of xs) x.user.number in
+      let below : i < length xs = omega (arith, map_length (λ (x : Slot). x.user.number) xs) in
+      let same : 0 ≡ suc i = d 0 (suc i) (omega arith) (omega arith) (sym e ∙ user_is xs i) in
+      omega arith),
+  slots_apart xs (λ i j li lj e. let same : suc i ≡ suc j = d (suc i) (suc j) (omega arith) (omega arith) e in omega arith),
+)
 
--- the four parts of an open step
-not_second : (x t a m : Bool) → t ≡ false → (x && (t && (a && m))) ≡ false
-not_second true true a m e = absurd (both_ways true e refl)
-not_second true false a m e = refl
-not_second false t a m e = refl
+module _ (x : Delegation) where
+  abbrev pub p : Policy
+  p = policy_of x.board.now.tables
 
-not_last : (x t a m : Bool) → m ≡ false → (x && (t && (a && m))) ≡ false
-not_last true true true m e = e
-not_last true true false m e = refl
-not_last true false a m e = refl
-not_last false t a m e = refl
+  abbrev pub slots : List Slot
+  slots = slots_of x.plan.now
 
-third : (x t a m : Bool) → x ≡ true → t ≡ true → m ≡ true → (x && (t && (a && m))) ≡ a
-third true true true true e f g = refl
-third true true false m e f g = refl
-third true true true false e f g = absurd (both_ways false refl g)
-third true false a m e f g = absurd (both_ways false refl f)
-third false t a m e f g = absurd (both_ways false refl e)
+  abbrev pub us : List User
+  us = users_of slots
 
-part_one : (x t a m : Bool) → (x && (t && (a && m))) ≡ true → x ≡ true
-part_one true t a m e = refl
-part_one false t a m e = e
+  abbrev down : Role → Role → Bool
+  down = down_of x.plan.now.masks.seniors
 
-part_two : (x t a m : Bool) → (x && (t && (a && m))) ≡ true → t ≡ true
-part_two true true a m e = refl
-part_two true false a m e = e
-part_two false t a m e = absurd (both_ways false refl e)
+  pub many : length us ≡ length slots
+  many = map_length (λ (x : Slot). x.user.number) slots
 
-part_three : (x t a m : Bool) → (x && (t && (a && m))) ≡ true → a ≡ true
-part_three true true true m e = refl
-part_three true true false m e = e
-part_three true false a m e = absurd (both_ways false refl e)
-part_three false t a m e = absurd (both_ways false refl e)
+  apart : Apart us
+  apart = slots_apart slots x.distinct
 
-part_four : (x t a m : Bool) → (x && (t && (a && m))) ≡ true → m ≡ true
-part_four true true true m e = e
-part_four true true false m e = absurd (both_ways false refl e)
-part_four true false a m e = absurd (both_ways false refl e)
-part_four false t a m e = absurd (both_ways false refl e)
+  tells : TellsSenior p down
+  tells = sure_tells x.board.now.tables down x.tells
 
-module _ (p : Policy) (slots : List Slot) (seniors : List RoleSet) (ws : List ℕ) where
-  abbrev Opens : ℕ → Bool
-  Opens n = (delegates p slots seniors).opens n (bits ws)
+  in_range : (i : ℕ) → i < length us → user_of us i < users
+  in_range i l = let e = user_is slots i in let below = x.inside i (omega (arith, many)) in omega arith
 
-  abbrev acts_by : AssignRule → ℕ → Bool
-  acts_by rule = may_act p slots seniors (bits ws) rule.admin
+  targets_inside : (k : ℕ) (rule : AssignRule) → Nth k rule p.assigns → (r : Role) → T (rule.targets r) → r < roles
+  targets_inside k rule n r h =
+      let (e, m, is) = map_nth assign_of (entries x.board.now.tables.assigns) (subst (λ (rules : List AssignRule). Nth k rule rules) (assigns_are x.board.now.tables) n) in
+      small e.targets r (subst⁻¹ (λ (rule : AssignRule). T (rule.targets r)) is h)
 
-  module _ (n : ℕ) where
-    abbrev X : Bool
-    X = ltb (slot_of n) (length slots)
+  -- what the closing comes to
+  pub closed_run : (list after : List RunStep) (n : ℕ) (ws ws' : List ℕ) → ClosedWith (delegates p us) (bits ws) list n (bits ws') after
+      → RunAmong p us (said us (bits ws)) (map adding (take n after)) (said us (bits ws'))
+  closed_run list after n ws ws' c =
+      run_among adding p us (omega (arith, many, few x.plan.now.slots)) apart targets_inside c.trace
+      (λ m l o. (c.exact (m % list_places)).1 (made m (bits ws') l (λ j h. (c.exact j).0 h) o))
 
-    abbrev G : Bool
-    G = (rule_of p n).targets (role_of n)
+  pub all_run : (list after : List RunStep) (r : Result ℕ TooShort) (ws ws' : List ℕ) → Closes (delegates p us) ws list r ws' after
+      → IfOk r (λ n. RunAmong p us (said us (bits ws)) (map adding (take n after)) (said us (bits ws')))
+  all_run list after (Ok n) ws ws' c = closed_run list after n ws ws' c
+  all_run list after (Err e) ws ws' c = tt
 
-    abbrev A : Bool
-    A = some (length slots) (acts_by (rule_of p n))
+  module _ (ws : List ℕ) where
+    abbrev f : Facts
+    f = bits ws
 
-    abbrev M : Bool
-    M = meets_test (down_of seniors) (row_at (bits ws) (slot_of n)) (rule_of p n).condition
+    -- the roles that the code read of a slot
+    said_slot : (i : ℕ) → i < length us → (there : RoleSet) → there.word ≡ get_or ws i 0 → said us f (user_of us i) ≡ roles_of there
+    said_slot i l there e = said_at us apart f i l ∙ row_is ws i ∙ ap (λ w. roles_of (of w)) (sym e)
 
-    pub open_slot : Opens n ≡ true → slot_of n < length slots
-    open_slot o = ltb→lt (slot_of n) (length slots) (as_test X (part_one X G A M o))
+    -- who may act, as the code tests it
+    module _ (i : ℕ) (l : i < length slots) (there : RoleSet) (row : there.word ≡ get_or ws i 0) (admin n : ℕ) (at : n ≡ admin) (b : Bool) (is : b ≡ member_test down (roles_of there) n) where
+      below : i < length us
+      below = omega (arith, many)
 
-    pub open_target : Opens n ≡ true → G ≡ true
-    open_target o = part_two X G A M o
+      member_is : b ≡ member_test down (roles_of there) admin
+      member_is = is ∙ ap (member_test down (roles_of there)) at
 
-    pub open_some : Opens n ≡ true → A ≡ true
-    open_some o = part_three X G A M o
+      pub acts_yes : ((slot_at slots i).acts && b) ≡ true → MayAct p us f admin (user_of us i)
+      acts_yes e =
+          let h = as_test ((slot_at slots i).acts && b) e in
+          let free : T (not (p.trusted (slot_user slots i))) = subst T (x.acts i l) (first (slot_at slots i).acts b h) in (
+            subst⁻¹ (λ u. T (not (p.trusted u))) (user_is slots i) free,
+            subst⁻¹ (λ s. Member p.edge s admin) (said_slot i below there row)
+                ((member_test_lem p down tells (roles_of there) (small there) admin).0 (subst T member_is (second (slot_at slots i).acts b h))),
+          )
 
-    pub open_needs : Opens n ≡ true → M ≡ true
-    open_needs o = part_four X G A M o
+      pub acts_no : ((slot_at slots i).acts && b) ≡ false → MayAct p us f admin (user_of us i) → ⊥
+      acts_no e (free, m) = both_ways ((slot_at slots i).acts && b) e (as_true ((slot_at slots i).acts && b) (both (slot_at slots i).acts b
+          (subst⁻¹ T (x.acts i l) (subst (λ u. T (not (p.trusted u))) (user_is slots i) free))
+          (subst⁻¹ T member_is ((member_test_lem p down tells (roles_of there) (small there) admin).1 (subst (λ s. Member p.edge s admin) (said_slot i below there row) m)))))
 
-    -- what the code found of the step's rule and of the roles in its slot
-    module _ (rule : AssignRule) (is : rule_of p n ≡ rule) (there : RoleSet) (row : there.word ≡ get_or ws (slot_of n) 0) where
-      met : M ≡ meets_test (down_of seniors) (roles_of there) rule.condition
-      met = ap₂ (λ f x. meets_test (down_of seniors) f x.condition) (row_of ws (slot_of n) there row) is
+    abbrev Opens : ℕ → Type 0
+    Opens n = (delegates p us).opens n f
 
-      pub no_slot : length slots ≤ slot_of n → Opens n ≡ false
-      no_slot l = ap (λ b. b && (G && (A && M))) (as_false X (deny X (λ h. let k : slot_of n < length slots = ltb→lt (slot_of n) (length slots) h in omega arith)))
+    -- a step past all rules is shut
+    pub past_rules : (n : ℕ) → length (entries x.board.now.tables.assigns) ≤ n / list_places → Opens n → ⊥
+    past_rules n le (l, (a, (i, m))) = let below : suc (n / list_places) ≤ length p.assigns = nth_below m.numbered in omega (arith, rules_are x.board.now.tables)
 
-      pub no_target : rule.targets (role_of n) ≡ false → Opens n ≡ false
-      no_target e = not_second X G A M (ap (λ x. x.targets (role_of n)) is ∙ e)
+    -- a step with the rule that the code found of it
+    module _ (n : ℕ) (rule : AssignRule) (nth : Nth (rule_number n) rule p.assigns) where
+      pub open_target : Opens n → T (rule.targets (role_of n))
+      open_target (l, (a, (i, m))) = subst (λ (y : AssignRule). T (y.targets (role_of n))) (one_nth m.numbered nth) m.target
 
-      pub needs_unmet : meets_test (down_of seniors) (roles_of there) rule.condition ≡ false → Opens n ≡ false
-      needs_unmet e = not_last X G A M (met ∙ e)
+      pub open_actor : Opens n → (r : Option ℕ) → FoundActor p us f rule.admin r → (r ≡ None → ⊥)
+      open_actor (l, (a, (i, m))) r found none =
+          let (below, at) = at_place us a i in
+          let all : (k : ℕ) → k < length us → MayAct p us f rule.admin (user_of us k) → ⊥ = subst (λ r. FoundActor p us f rule.admin r) none found in
+          all (place us a) below
+          (subst⁻¹ (λ (v : ℕ). MayAct p us f rule.admin v) at (m.untrusted, subst (λ (y : AssignRule). Member p.edge (said us f a) y.admin) (one_nth m.numbered nth) m.administers))
 
-      pub open_is : slot_of n < length slots → rule.targets (role_of n) ≡ true → meets_test (down_of seniors) (roles_of there) rule.condition ≡ true
-          → (r : Option ℕ) → FirstBelow (acts_by rule) (length slots) r → Opens n ≡ is_some r
-      open_is l g m r f =
-          third X G A M (as_true X (lt→ltb (slot_of n) (length slots) l)) (ap (λ x. x.targets (role_of n)) is ∙ g) (met ∙ m)
-          ∙ ap (λ x. some (length slots) (acts_by x)) is ∙ sym (first_some (acts_by rule) (length slots) r f)
+      -- one who may make it
+      pub may_give : slot_of n < length us → T (rule.targets (role_of n)) → Meets p.edge (said us f (user_of us (slot_of n))) rule.condition
+          → (i : ℕ) → i < length us → MayAct p us f rule.admin (user_of us i) → MayGive p us f n (user_of us i)
+      may_give l target meets i li (free, member) = (
+        at_listed us i li,
+        record {
+          an_actor = in_range i li;
+          a_user = in_range (slot_of n) l;
+          untrusted = free;
+          rule = rule;
+          numbered = nth;
+          target = target;
+          administers = member;
+          meets = meets;
+        },
+      )
 
-      pub open_acts : Opens n ≡ true → FirstBelow (acts_by rule) (length slots) None → ⊥
-      open_acts o none = some_first (acts_by rule) (length slots) none (sym (ap (λ x. some (length slots) (acts_by x)) is) ∙ open_some o)
+      open_meets : Opens n → Meets p.edge (said us f (user_of us (slot_of n))) rule.condition
+      open_meets (l, (a, (i, m))) = subst (λ (y : AssignRule). Meets p.edge (said us f (user_of us (slot_of n))) y.condition) (one_nth m.numbered nth) m.meets
 
-      -- where to go on
-      abbrev Go : ℕ → Type 0
-      Go to = Leap (delegates p slots seniors) n (bits ws) to
+      module _ (there : RoleSet) (row : there.word ≡ get_or ws (slot_of n) 0) where
+        abbrev met : Bool
+        met = meets_test down (roles_of there) rule.condition
 
-      abbrev k : ℕ
-      k = n / 8512
+        pub unmet : met ≡ false → Opens n → ⊥
+        unmet e o = both_ways met e (as_true met (yes_meets p down tells (roles_of there) (small there) rule.condition
+            (subst (λ s. Meets p.edge s rule.condition) (said_slot (slot_of n) o.0 there row) (open_meets o))))
 
-      pub leap_here : Go n
-      leap_here = record { onward = omega arith; idle = λ j a b. absurd (omega arith) }
+        pub meets_when : slot_of n < length us → met ≡ true → Meets p.edge (said us f (user_of us (slot_of n))) rule.condition
+        meets_when l e = subst⁻¹ (λ s. Meets p.edge s rule.condition) (said_slot (slot_of n) l there row) (meets_yes p down tells (roles_of there) (small there) rule.condition (as_test met e))
 
-      same_rule : (j : ℕ) → j / 8512 ≡ k → rule_of p j ≡ rule
-      same_rule j e = ap (λ i. get_or p.assigns i Rattle.theory.specs.Delegation.no_rule) e ∙ is
+        -- where to go on
+        abbrev pub Go : ℕ → Type 0
+        Go to = Leap (delegates p us) n f to
 
-      -- a fact of this slot, by the set of its roles
-      there_is : (j : ℕ) → slot_of j ≡ slot_of n → bits ws (j % 8512) ≡ roles_of there (role_of j)
-      there_is j e =
-          let m : j % 8512 % 64 ≡ j % 64 = omega arith in
-          fact_is ws (j % 8512) ∙ ap₂ (λ i r. roles_of (of (get_or ws i 0)) r) e m ∙ ap (λ w. roles_of (of w) (role_of j)) (sym row)
+        numbered : (j : ℕ) → j / list_places ≡ n / list_places → Nth (rule_number j) rule p.assigns
+        numbered j e = subst⁻¹ (λ k. Nth (suc k) rule p.assigns) e nth
 
-  pub leap_end : (n : ℕ) → length slots ≤ slot_of n → Leap (delegates p slots seniors) n (bits ws) ((n / 8512 + 1) * 8512)
-  leap_end n le = record {
-    onward = omega arith;
-    idle = λ j a b lt o. let l : j % 8512 / 64 < length slots = open_slot j o in let no : ⊥ = omega arith in absurd no;
-  }
+        -- a fact of this slot, by the set of its roles
+        there_is : (j : ℕ) → slot_of j ≡ slot_of n → f (j % list_places) ≡ roles_of there (role_of j)
+        there_is j e =
+            let m : j % list_places % roles ≡ j % roles = omega arith in
+            fact_is ws (j % list_places) ∙ ap₂ (λ i r. roles_of (of (get_or ws i 0)) r) e m ∙ ap (λ w. roles_of (of w) (role_of j)) (sym row)
 
-  module _ (n : ℕ) (rule : AssignRule) (is : rule_of p n ≡ rule) (there : RoleSet) (row : there.word ≡ get_or ws (slot_of n) 0) where
-    pub leap_full : ((r : ℕ) → T (rule.targets r) → T (roles_of there r)) → Go n rule is there row (n / 8512 * 8512 + (slot_of n + 1) * 64)
-    leap_full all = record {
+    pub leap_end : (n : ℕ) → length slots ≤ slot_of n → Leap (delegates p us) n f ((n / list_places + 1) * list_places)
+    leap_end n le = record {
       onward = omega arith;
-      idle = λ j a b lt o.
-          there_is n rule is there row j (omega arith)
-          ∙ as_true (roles_of there (role_of j)) (all (role_of j) (as_test (rule.targets (role_of j)) (sym (ap (λ x. x.targets (role_of j)) (same_rule n rule is there row j (omega arith))) ∙ open_target j o)));
+      idle = λ j a b lt o. let l : j % list_places / roles < length us = o.0 in let no : ⊥ = omega (arith, many) in absurd no;
     }
 
-    idle_role : (b c : Bool) → (b || not c) ≡ true → c ≡ true → b ≡ true
-    idle_role true c e f = refl
-    idle_role false true e f = e
-    idle_role false false e f = absurd (both_ways false refl f)
+    module _ (n : ℕ) (rule : AssignRule) (nth : Nth (rule_number n) rule p.assigns) (there : RoleSet) (row : there.word ≡ get_or ws (slot_of n) 0) where
+      pub leap_full : ((r : ℕ) → T (rule.targets r) → T (roles_of there r)) → Go n rule nth there row (n / list_places * list_places + (slot_of n + 1) * roles)
+      leap_full all = record {
+        onward = omega arith;
+        idle = λ j a b lt o.
+            there_is n rule nth there row j (omega arith)
+            ∙ as_true (roles_of there (role_of j)) (all (role_of j) (open_target j rule (numbered n rule nth there row j (omega arith)) o));
+      }
 
-    pub leap_one : (roles_of there (role_of n) || not (rule.targets (role_of n))) ≡ true → Go n rule is there row (n + 1)
-    leap_one e = record {
-      onward = omega arith;
-      idle = λ j a b lt o.
-          let same : n ≡ j = omega arith in
-          subst (λ j. Opens j ≡ true → bits ws (j % 8512) ≡ true) same
-          (λ o. there_is n rule is there row n refl ∙ idle_role (roles_of there (role_of n)) (rule.targets (role_of n)) e (sym (ap (λ x. x.targets (role_of n)) is) ∙ open_target n o)) o;
-    }
+      idle_role : (b c : Bool) → (b || not c) ≡ true → T c → b ≡ true
+      idle_role true c e t = refl
+      idle_role false true e t = e
+      idle_role false false e t = absurd t
 
-    pub leap_shut : meets_test (down_of seniors) (roles_of there) rule.condition ≡ false → Go n rule is there row (n / 8512 * 8512 + (slot_of n + 1) * 64)
-    leap_shut e = record {
-      onward = omega arith;
-      idle = λ j a b lt o.
-          let slot : slot_of n ≡ slot_of j = omega arith in
-          let shut : Opens j ≡ false = needs_unmet j rule (same_rule n rule is there row j (omega arith)) there (row ∙ ap (λ i. get_or ws i 0) slot) e in
-          absurd (both_ways (Opens j) shut o);
-    }
+      pub leap_one : (roles_of there (role_of n) || not (rule.targets (role_of n))) ≡ true → Go n rule nth there row (n + 1)
+      leap_one e = record {
+        onward = omega arith;
+        idle = λ j a b lt o.
+            let same : n ≡ j = omega arith in
+            subst (λ j. Opens j → f (j % list_places) ≡ true) same
+            (λ o. there_is n rule nth there row n refl ∙ idle_role (roles_of there (role_of n)) (rule.targets (role_of n)) e (open_target n rule nth o)) o;
+      }
 
-    pub leap_rule : FirstBelow (acts_by rule) (length slots) None → Go n rule is there row ((n / 8512 + 1) * 8512)
-    leap_rule none = record {
-      onward = omega arith;
-      idle = λ j a b lt o. absurd (some_first (acts_by rule) (length slots) none (sym (ap (λ x. some (length slots) (acts_by x)) (same_rule n rule is there row j (omega arith))) ∙ open_some j o));
-    }
+      pub leap_shut : meets_test down (roles_of there) rule.condition ≡ false → Go n rule nth there row (n / list_places * list_places + (slot_of n + 1) * roles)
+      leap_shut e = record {
+        onward = omega arith;
+        idle = λ j a b lt o.
+            let slot : slot_of n ≡ slot_of j = omega arith in
+            absurd (unmet j rule (numbered n rule nth there row j (omega arith)) there (row ∙ ap (λ i. get_or ws i 0) slot) e o);
+      }
 
--- by the step's rule or by what the code found of it
-pub acts_by_lem : (p : Policy) (slots : List Slot) (seniors : List RoleSet) (ws : List ℕ) (n : ℕ) (rule : AssignRule) → rule_of p n ≡ rule
-    → (j : ℕ) → may_act p slots seniors (bits ws) rule.admin j ≡ true → may_act p slots seniors (bits ws) (rule_of p n).admin j ≡ true
-acts_by_lem p slots seniors ws n rule is j e = ap (λ x. may_act p slots seniors (bits ws) x.admin j) is ∙ e
-
--- who may act, as the code tests it
-pub may_is : (p : Policy) (slots : List Slot) (seniors : List RoleSet) (ws : List ℕ) (admin j : ℕ) (free : Bool) (there : RoleSet) (b : Bool) (n : ℕ)
-    → free ≡ not (p.trusted (user_at slots j)) → there.word ≡ get_or ws j 0 → b ≡ member_test (down_of seniors) (roles_of there) n → n ≡ admin
-    → may_act p slots seniors (bits ws) admin j ≡ (free && b)
-may_is p slots seniors ws admin j free there b n ef ew eb en =
-    ap₂ ◌&&◌ (sym ef) (ap₂ (member_test (down_of seniors)) (row_of ws j there ew) (sym en) ∙ sym eb)
+      pub leap_rule : FoundActor p us f rule.admin None → Go n rule nth there row ((n / list_places + 1) * list_places)
+      leap_rule none = record {
+        onward = omega arith;
+        idle = λ j a b lt o. absurd (open_actor j rule (numbered n rule nth there row j (omega arith)) o None none refl);
+      }

@@ -1,18 +1,30 @@
 -- Sets and conditions worked out with masks: sets of roles that are kept for each role and each permission.
-use Rattle.std.specs.Prelude.{ℕ, ◌+◌, ◌*◌, ◌/◌, ◌%◌, min, max, Bool, true, false, cond, ◌&&◌, ◌||◌, List, Some, None, Option, ◌==◌, slice_index_or}
-use Rattle.meaning.specs.Membership.{Role, Row}
+use Rattle.std.specs.Prelude.{ℕ, ◌+◌, ◌*◌, ◌/◌, ◌%◌, ◌<◌, T, ◌↔◌, min, max, Bool, true, false, cond, ◌&&◌, ◌||◌, List, Some, None, Option, ◌==◌, slice_index_or}
+use Rattle.meaning.specs.Measures.{roles}
+use Rattle.meaning.specs.Membership.{Role, Row, Senior}
+use Rattle.meaning.specs.Rules.{Condition, everybody, in_role, both, either, Policy}
+use Rattle.theory.specs.Tests.{some}
 use Rattle.meaning.specs.Sets.{UserSet, members, holders, only, nobody, union, intersection}
-use Rattle.theory.specs.Delegation.{member_test}
 use Rattle.rbac.specs.declared.sets.RoleSet.{RoleSet}
 use Rattle.rbac.specs.declared.users.User.{User as AUser}
 use Rattle.rbac.specs.Roles.{roles_of}
 use Rattle.hierarchy.specs.Edges.{no_roles}
 use Rattle.trees.specs.declared.nodes.Node.{Node}
 use Rattle.trees.specs.declared.nodes.Node.TheVariants.{Role as RoleNode, Permission, User, Nobody, Or, And}
-use Rattle.trees.specs.Reading.{listed}
-use Rattle.trees.specs.Trees.{balanced}
-use Rattle.tables.specs.declared.entries.Needs.{Needs}
-use Rattle.tables.specs.declared.entries.Needs.TheVariants.{Everybody, Roles}
+
+-- a test of seniority, right for every role in range
+abbrev pub TellsSenior : Policy → (Role → Role → Bool) → Type 0
+TellsSenior p down = (q r : Role) → q < roles → T (down q r) ↔ Senior p.edge q r
+
+-- membership and conditions, by such a test
+abbrev pub member_test : (Role → Role → Bool) → Row → Role → Bool
+member_test down row r = some roles (λ q. row q && down q r)
+
+abbrev pub meets_test : (Role → Role → Bool) → Row → Condition → Bool
+meets_test down row everybody = true
+meets_test down row (in_role r) = member_test down row r
+meets_test down row (both c d) = meets_test down row c && meets_test down row d
+meets_test down row (either c d) = meets_test down row c || meets_test down row d
 
 -- the role q stands in the mask at place r
 abbrev pub down_of : List RoleSet → Role → Role → Bool
@@ -54,8 +66,3 @@ pushed (User n) b s = cond b (s * 2 + 1) (s * 2)
 pushed Nobody b s = cond b (s * 2 + 1) (s * 2)
 pushed Or b s = s / 4 * 2 + max (s / 2 % 2) (s % 2)
 pushed And b s = s / 4 * 2 + min (s / 2 % 2) (s % 2)
-
--- the nodes of a condition are a set's
-abbrev pub whole_needs : Needs → Bool
-whole_needs Everybody = true
-whole_needs (Roles n) = balanced 0 (listed n)

@@ -1,45 +1,50 @@
 // The steps of delegation.
-ghost use Rattle.std.specs.Prelude.{◌≡◌, suc, ◌*◌, ◌/◌, ◌%◌, ◌<◌, ◌≤◌, false, length, slice_index_or};
+ghost use Rattle.std.specs.Prelude.{◌≡◌, ◌*◌, ◌/◌, ◌%◌, ◌<◌, ◌≤◌, length, map, take};
+ghost use Rattle.std.specs.Result.{IfOk};
 ghost use Rattle.words.specs.Words.{bits};
-ghost use Rattle.steps.specs.Steps.{Leap};
+ghost use Rattle.steps.specs.Steps.{Lawful, Leap};
+ghost use Rattle.steps.specs.Closing.{Closes};
 ghost use Rattle.meaning.specs.Measures.{assign_rules, list_places};
 ghost use Rattle.meaning.specs.Lists.{Nth};
-ghost use Rattle.theory.specs.Delegation.{no_rule};
-ghost use Rattle.bounded.specs.Entries.{entries};
+ghost use Rattle.theory.specs.Delegation.{rule_number, said, RunAmong};
+ghost use Rattle.theory.proofs.Delegate.{lawful};
 ghost use Rattle.tables.specs.View.{policy_of, assign_of};
-ghost use Rattle.deciding.specs.Slots.{slots_of};
-ghost use Rattle.deciding.specs.Delegates.{delegates, delegates_lawful, may_act, FirstBelow};
+ghost use Rattle.deciding.specs.Slots.{slots_of, users_of};
+ghost use Rattle.deciding.specs.Delegates.{adding, delegates, FoundActor};
 
 use crate::delegation::Delegation;
 use crate::runs::RunStep;
 use crate::sets::{condition, member};
 use meaning::{LIST_PLACES, ROLES};
 use rbac::{Role, RoleSet};
-use steps::StepSystem;
-use tables::{AssignEntry, Tables};
+use soundness::AssignRule;
+use steps::{StepSystem, TooShort, close};
+use tables::Tables;
 use words::word;
 
 // How many assign rules there are.
-pub fn rules(tables: &Tables) -> usize
+fn rules(tables: &Tables) -> usize
     ensures all { result ≡ length (policy_of tables.now).assigns }
     ensures few { result ≤ assign_rules }
 {
     tables.assigns.entries().len()
 }
 
-// The entry of an assign rule.
-fn entry_at(tables: &Tables, rule: usize) -> AssignEntry
-    requires { rule < length (policy_of tables.now).assigns }
-    ensures is { slice_index_or (policy_of tables.now).assigns rule no_rule ≡ assign_of result }
-    ensures listed { Nth (suc rule) result (entries tables.now.assigns) }
-{
-    tables.assigns.entries()[rule]
-}
+impl<'a> Delegation<'a, '_> {
+    // The rule of a step.
+    fn rule(&self, step: usize) -> AssignRule<'a>
+        requires { step < list_places * length (policy_of self.now.board.now.tables).assigns }
+        ensures { Nth (rule_number step) (assign_of result.stored.now) (policy_of self.now.board.now.tables).assigns }
+    {
+        match self.board.assign_rule(step / LIST_PLACES) {
+            Some(rule) => rule,
+            None => unreachable(),
+        }
+    }
 
-impl Delegation<'_, '_> {
-    // The first slot whose user may act by rules with this administering role.
+    // A slot whose user may act by rules with this administering role.
     fn actor(&self, admin: Role, facts: &[u64]) -> Option<usize>
-        ensures { FirstBelow (may_act (policy_of self.now.tables.now) (slots_of self.now.plan.now) self.now.plan.now.masks.seniors (bits facts.now) admin.number) (length (slots_of self.now.plan.now)) result }
+        ensures { FoundActor (policy_of self.now.board.now.tables) (users_of (slots_of self.now.plan.now)) (bits facts.now) admin.number result }
     {
         let slots = self.plan.slots.entries();
         for (j, slot) in slots.iter().enumerate() {
@@ -54,87 +59,94 @@ impl Delegation<'_, '_> {
 
     // Where to go on from a step: itself where it is worth a try, or past steps that are shut or make nothing new.
     fn leap(&self, step: usize, facts: &[u64]) -> usize
-        requires { step < list_places * length (policy_of self.now.tables.now).assigns }
-        ensures { Leap (delegates (policy_of self.now.tables.now) (slots_of self.now.plan.now) self.now.plan.now.masks.seniors) step (bits facts.now) result }
+        requires { step < list_places * length (policy_of self.now.board.now.tables).assigns }
+        ensures { Leap (delegates (policy_of self.now.board.now.tables) (users_of (slots_of self.now.plan.now))) step (bits facts.now) result }
     {
-        let rule = step / LIST_PLACES;
-        let entry = entry_at(self.tables, rule);
+        let place = step / LIST_PLACES;
+        let rule = self.rule(step);
+        let entry = rule.stored;
         let slot = step % LIST_PLACES / ROLES;
         if slot >= self.plan.slots.entries().len() {
-            return (rule + 1) * LIST_PLACES;
+            return (place + 1) * LIST_PLACES;
         }
         let there = RoleSet::from_word(word(facts, slot));
         if entry.targets.is_within(there) {
-            return rule * LIST_PLACES + (slot + 1) * ROLES;
+            return place * LIST_PLACES + (slot + 1) * ROLES;
         }
         let role = Role::modulo(step);
         if there.contains(role) | !entry.targets.contains(role) {
             return step + 1;
         }
-        if !condition(&entry.needs, &self.plan.masks, there) {
-            return rule * LIST_PLACES + (slot + 1) * ROLES;
+        if !condition(&rule, &self.plan.masks, there) {
+            return place * LIST_PLACES + (slot + 1) * ROLES;
         }
         match self.actor(entry.admin, facts) {
             Some(_) => step,
-            None => (rule + 1) * LIST_PLACES,
+            None => (place + 1) * LIST_PLACES,
         }
+    }
+
+    /// Adds to the facts all that the slots' users can give each other, lists the steps of a run that does it, and returns their number.
+    /// The fact `64 * i + r` says that the user of slot `i` has the role `r`; word `i` is so the set of that user's roles. Words are needed for all facts, and a place of the list for each; where the tables are too short for it, they are left as they are.
+    pub fn add_all(&self, work: &mut [u64], list: &mut [RunStep]) -> Result<usize, TooShort>
+        ensures law { Lawful (delegates (policy_of self.now.board.now.tables) (users_of (slots_of self.now.plan.now))) }
+        ensures closes { Closes (delegates (policy_of self.now.board.now.tables) (users_of (slots_of self.now.plan.now))) work.old list.old result work.new list.new }
+        ensures run { IfOk result (λ n. RunAmong (policy_of self.now.board.now.tables) (users_of (slots_of self.now.plan.now)) (said (users_of (slots_of self.now.plan.now)) (bits work.old)) (map adding (take n list.new)) (said (users_of (slots_of self.now.plan.now)) (bits work.new))) }
+    {
+        close(self, work, list)
     }
 }
 
 impl<'a, 'b> StepSystem for Delegation<'a, 'b> {
     type Record = RunStep;
 
-    ghost means = { λ x. delegates (policy_of x.tables.now) (slots_of x.plan.now) x.plan.now.masks.seniors };
-
-    ghost lawful = { λ x. delegates_lawful (policy_of x.tables.now) (slots_of x.plan.now) x.plan.now.masks.seniors };
+    ghost means = { λ x. delegates (policy_of x.board.now.tables) (users_of (slots_of x.plan.now)) };
 
     fn facts(&self) -> usize {
         LIST_PLACES
     }
 
     fn steps(&self) -> usize {
-        LIST_PLACES * rules(self.tables)
+        LIST_PLACES * rules(&self.board.tables)
     }
 
     fn makes(&self, step: usize) -> usize {
         step % LIST_PLACES
     }
 
-    fn is_open(&self, step: usize, facts: &[u64]) -> bool {
+    fn record(&self, step: usize, facts: &[u64]) -> Option<RunStep> {
+        let place = step / LIST_PLACES;
         let slot = step % LIST_PLACES / ROLES;
-        if slot >= self.plan.slots.entries().len() {
-            return false;
+        let slots = self.plan.slots.entries();
+        if slot >= slots.len() {
+            return None;
         }
-        let entry = entry_at(self.tables, step / LIST_PLACES);
-        if !entry.targets.contains(Role::modulo(step)) {
-            return false;
+        let rule = self.board.assign_rule(place)?;
+        let entry = rule.stored;
+        let role = Role::modulo(step);
+        if !entry.targets.contains(role) {
+            return None;
         }
         let there = RoleSet::from_word(word(facts, slot));
-        if !condition(&entry.needs, &self.plan.masks, there) {
-            return false;
+        if !condition(&rule, &self.plan.masks, there) {
+            return None;
         }
-        self.actor(entry.admin, facts).is_some()
-    }
-
-    fn record(&self, step: usize, facts: &[u64]) -> RunStep {
-        let rule = step / LIST_PLACES;
-        let slots = self.plan.slots.entries();
-        match self.actor(entry_at(self.tables, rule).admin, facts) {
-            Some(slot) => RunStep {
-                actor: slots[slot].user,
-                user: slots[step % LIST_PLACES / ROLES].user,
-                role: Role::modulo(step),
-                rule: (rule + 1) as u8,
-            },
-            None => unreachable(),
-        }
+        let actor = self.actor(entry.admin, facts)?;
+        Some(RunStep {
+            actor: slots[actor].user,
+            user: slots[slot].user,
+            role,
+            rule: (place + 1) as u8,
+        })
     }
 
     fn ahead(&self, step: usize, facts: &[u64]) -> usize {
-        if step < LIST_PLACES * rules(self.tables) {
+        if step < LIST_PLACES * rules(&self.board.tables) {
             self.leap(step, facts)
         } else {
             step
         }
     }
+
+    ghost lawful = { λ x. lawful adding (policy_of x.board.now.tables) (users_of (slots_of x.plan.now)) };
 }

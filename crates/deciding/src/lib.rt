@@ -8,7 +8,6 @@ mod plan;
 mod runs;
 mod sets;
 
-pub use delegating::rules;
 pub use delegation::Delegation;
 pub use masks::Masks;
 pub use plan::{Plan, Slot};

@@ -5,7 +5,7 @@ ghost use Rattle.meaning.specs.Measures.{roles, permissions};
 use meaning::{PERMISSIONS, ROLES};
 use rbac::RoleSet;
 
-// For each role those senior to it, itself among them, and for each permission those whose members have it.
+/// For each role, by its number, a set of roles senior to it, and for each permission a set of those whose members have it. What is in the sets is said by whoever makes them.
 #[derive(Clone, Copy)]
 pub struct Masks {
     pub seniors: [RoleSet; ROLES],

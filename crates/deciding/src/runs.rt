@@ -3,7 +3,7 @@ ghost use Rattle.std.specs.Prelude.{◌≡◌};
 
 use rbac::{Role, User};
 
-// The actor gives the role to the user, or takes it, by the rule of this number, counted from 1 among rules of its kind.
+/// The actor gives the role to the user, or takes it, by the rule of this number, counted from 1 among rules of its kind.
 #[derive(Clone, Copy, PartialEq, Eq, Debug)]
 pub struct RunStep {
     pub actor: User,
@@ -13,7 +13,7 @@ pub struct RunStep {
 }
 
 impl RunStep {
-    // Fills the places of a list before anything stands there. It is no step, since no rule has the number 0.
+    /// Fills the places of a list before anything stands there. It is no step, since no rule has the number 0.
     pub fn blank() -> RunStep
         ensures { result.rule ≡ 0 }
     {

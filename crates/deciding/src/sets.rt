@@ -1,14 +1,14 @@
 // Sets and conditions worked out on a stack of bits, the top lowest. One word holds the stack of the largest set, so no table is filled for it.
 ghost use Rattle.std.specs.Prelude.{◌≡◌, ◌^◌, ◌<◌, ◌≤◌, true, length, Some, slice_index_or};
-ghost use Rattle.theory.specs.Delegation.{member_test, meets_test};
 ghost use Rattle.rbac.specs.Roles.{roles_of};
 ghost use Rattle.hierarchy.specs.Edges.{no_roles};
 ghost use Rattle.trees.specs.Trees.{balanced, decode};
 ghost use Rattle.tables.specs.View.{set_of, condition_of, or_nobody};
-ghost use Rattle.deciding.specs.Masked.{down_of, leaf_says, in_test, pushed, whole_needs};
+ghost use Rattle.deciding.specs.Masked.{member_test, meets_test, down_of, leaf_says, in_test, pushed};
 
 use crate::masks::Masks;
 use rbac::{RoleSet, User};
+use soundness::AssignRule;
 use tables::Needs;
 use trees::{Node, UserTree};
 
@@ -19,7 +19,7 @@ fn set_at(sets: &[RoleSet], place: usize) -> RoleSet
     sets.get(place).copied().unwrap_or(RoleSet::from_word(0))
 }
 
-// Whether one of these roles is in the set at the place.
+/// Whether one of these roles is in the set at this place; no role is in a set past the last.
 pub fn member(roles: RoleSet, sets: &[RoleSet], place: usize) -> bool
     ensures { result ≡ member_test (down_of sets.now) (roles_of roles) place }
 {
@@ -62,18 +62,18 @@ fn worked(nodes: &[Node], masks: &Masks, who: Option<User>, roles: RoleSet) -> b
     stack % 2 == 1
 }
 
-// Whether the user, with these roles, is in the set.
+/// Whether the user, with these roles, is in the set, by masks of seniors and of givers.
 pub fn in_set(set: &UserTree, masks: &Masks, user: User, roles: RoleSet) -> bool
     ensures { result ≡ in_test masks.now.seniors masks.now.givers (Some user) (roles_of roles) (set_of set.now.nodes) }
 {
     worked(set.nodes.entries(), masks, Some(user), roles)
 }
 
-// Whether a user with these roles meets the condition, where its nodes are a set's.
-pub fn condition(needs: &Needs, masks: &Masks, roles: RoleSet) -> bool
-    ensures { whole_needs needs.now ≡ true → result ≡ meets_test (down_of masks.now.seniors) (roles_of roles) (condition_of needs.now) }
+/// Whether a user with these roles meets the rule's condition, by masks of seniors. A condition that asks for nothing is met by everybody.
+pub fn condition(rule: &AssignRule, masks: &Masks, roles: RoleSet) -> bool
+    ensures { result ≡ meets_test (down_of masks.now.seniors) (roles_of roles) (condition_of rule.now.stored.now.needs) }
 {
-    match needs {
+    match &rule.stored.needs {
         Needs::Everybody => true,
         Needs::Roles(nodes) => worked(nodes.entries(), masks, None, roles),
     }

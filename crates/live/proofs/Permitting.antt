@@ -1,21 +1,16 @@
 -- What the entry of a rule permits by the masks is what its rule permits.
-use Rattle.std.proofs.Common.{◌≡◌, ℕ, ◌<◌, ◌≤◌, Bool, true, false, not, ◌&&◌, T, ◌↔◌, List, map, Decides, sym, refl, ap, ◌∙◌, subst, ⊎_elim}
+use Rattle.std.proofs.Common.{◌≡◌, ℕ, Bool, true, false, not, ◌&&◌, T, ◌↔◌, List, map, Decides, sym, refl, ap, ◌∙◌, subst}
 use mathlib.Core.Path.{subst⁻¹}
 use Rattle.std.specs.List.{list_any}
-use Rattle.std.proofs.lemmas.Bool.{both_ways, cases_lt}
+use Rattle.std.proofs.lemmas.Bool.{both_ways}
 use Rattle.meaning.specs.Membership.{IsUser, Row, Member}
 use Rattle.meaning.specs.Rules.{Condition, Meets, AssignRule, RevokeRule, MayAdd, MayRemove}
 use Rattle.meaning.specs.Lists.{Nth}
-use Rattle.theory.specs.Delegation.{TellsSenior, member_test, meets_test}
+use Rattle.deciding.specs.Masked.{TellsSenior, member_test, meets_test}
 use Rattle.meaning.proofs.Tests.{first, second, both, as_test, as_denied, clash}
-use Rattle.theory.proofs.Delegate.{member_test_lem, meets_yes, yes_meets}
+use Rattle.deciding.proofs.Telling.{member_test_lem, meets_yes, yes_meets, small}
 use Rattle.rbac.specs.declared.sets.RoleSet.{RoleSet}
 use Rattle.rbac.specs.Roles.{roles_of}
-use Rattle.rbac.proofs.Masks.{roles_past}
-use Rattle.trees.specs.Reading.{listed}
-use Rattle.trees.proofs.Whole.{whole_balanced}
-use Rattle.tables.specs.declared.entries.Needs.{Needs}
-use Rattle.tables.specs.declared.entries.Needs.TheVariants.{Everybody, Roles}
 use Rattle.tables.specs.declared.entries.AssignEntry.{AssignEntry}
 use Rattle.tables.specs.declared.entries.RevokeEntry.{RevokeEntry}
 use Rattle.tables.specs.declared.tables.Tables.{Tables}
@@ -23,21 +18,12 @@ use Rattle.bounded.specs.Entries.{entries}
 use Rattle.tables.specs.View.{policy_of, state_of, condition_of, assign_of, revoke_of}
 use Rattle.tables.proofs.Listing.{nth_map, map_nth}
 use Rattle.tables.proofs.Viewing.{assigns_are}
-use Rattle.soundness.specs.Valid.{Whole}
-use Rattle.deciding.specs.Masked.{whole_needs}
 use Rattle.live.specs.Living.{adds_test, removes_test}
 use Rattle.live.proofs.Searching.{any_nth, nth_any}
 
 pub revokes_are : (t : Tables) → (policy_of t).revokes ≡ map revoke_of (entries t.revokes)
 unfolding policy_of
 revokes_are t = refl
-
-small : (x : RoleSet) (r : ℕ) → T (roles_of x r) → r < 64
-small x r h = ⊎_elim (λ (l : r < 64). l) (λ (l : 64 ≤ r). absurd (subst T (roles_past x r l) h)) (cases_lt r 64)
-
-pub whole_entry : (n : Needs) → Whole n → whole_needs n ≡ true
-whole_entry Everybody w = refl
-whole_entry (Roles n) (x, e, _) = whole_balanced (listed n) (x, e)
 
 module _ (t : Tables) (a u r : ℕ) where
   abbrev MayBeAdded : Type 0
@@ -118,5 +104,5 @@ module _ (t : Tables) (a u r : ℕ) where
           (subst⁻¹ (λ (rule : AssignRule). T (adds_test down (roles_of x) (roles_of y) r rule)) is
           (both (A && B) C (both A B m.target ((administers m.rule.admin).1 m.administers)) ((meeting m.rule.condition).1 m.meets)))
 
-      pub adds_told : (b : Bool) (es : List AssignEntry) → es ≡ entries t.assigns → (policy_of t).trusted a ≡ false → b ≡ list_any adding es → Decides b MayBeAdded
-      adds_told b es all free is = let e = is ∙ ap (list_any adding) all in ((λ h. may_add (as_denied ((policy_of t).trusted a) free) (as_test _ (sym e ∙ h))), λ m. e ∙ add_may m)
+      pub adds_told : (b : Bool) → (policy_of t).trusted a ≡ false → b ≡ list_any adding (entries t.assigns) → Decides b MayBeAdded
+      adds_told b free e = ((λ h. may_add (as_denied ((policy_of t).trusted a) free) (as_test _ (sym e ∙ h))), λ m. e ∙ add_may m)

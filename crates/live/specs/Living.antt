@@ -2,7 +2,7 @@
 use Rattle.std.specs.Prelude.{Bool, ◌&&◌}
 use Rattle.meaning.specs.Membership.{Role, Row}
 use Rattle.meaning.specs.Rules.{AssignRule, RevokeRule}
-use Rattle.theory.specs.Delegation.{member_test, meets_test}
+use Rattle.deciding.specs.Masked.{member_test, meets_test}
 
 -- by this rule the actor may give the role to the user
 abbrev pub adds_test : (Role → Role → Bool) → Row → Row → Role → AssignRule → Bool

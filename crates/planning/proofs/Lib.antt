@@ -1,5 +1,5 @@
-pub mod Ranking
-pub mod Seating
+pub mod Masking
+pub mod Slotting
 pub mod Rowing
 pub mod Hiring
 pub mod Named

@@ -11,9 +11,9 @@ use Rattle.trees.specs.declared.nodes.Node.{Node}
 use Rattle.trees.specs.declared.nodes.Node.TheVariants.{Role, Permission, User, Nobody, Or, And}
 use Rattle.deciding.specs.declared.plan.Slot.{Slot}
 use Rattle.questions.specs.Naming.{users_in}
-use Rattle.planning.specs.Seats.{seated, Held, Grown}
+use Rattle.planning.specs.Slotted.{has_slot, HoldersSlotted, MoreSlots}
 use Rattle.planning.proofs.Hiring.{turned_round}
-use Rattle.planning.proofs.Seating.{grown_on, grown_as}
+use Rattle.planning.proofs.Slotting.{more_on, more_as}
 
 or_off : (b : Bool) → (b || false) ≡ b
 or_off true = refl
@@ -37,8 +37,8 @@ node_count Or ns = omega arith
 node_count And ns = omega arith
 
 -- who has no slot has no role
-pub no_row : (s : State) (slots : List Slot) (u : ℕ) → Held s slots → seated slots u ≡ false → no_role ≡ s u
-no_row s slots u held new = fun_ext (λ r. sym (as_false (s u r) (deny (s u r) (λ h. both_ways (seated slots u) new (as_true (seated slots u) (held u r h))))))
+pub no_row : (s : State) (slots : List Slot) (u : ℕ) → HoldersSlotted s slots → has_slot slots u ≡ false → no_role ≡ s u
+no_row s slots u held new = fun_ext (λ r. sym (as_false (s u r) (deny (s u r) (λ h. both_ways (has_slot slots u) new (as_true (has_slot slots u) (held u r h))))))
 
 -- the one that a user's node names
 pub one_name : (n v : ℕ) → eqb n v ≡ listed (n ∷ []) v
@@ -46,6 +46,6 @@ one_name n v = turned_round n v ∙ sym (or_off (eqb v n))
 
 -- one node more, and those behind it
 pub named_on : (p : Policy) (s : State) (n : Node) (ns : List Node) {slots mid after : List Slot}
-    → Grown p s slots (listed (users_in (n ∷ []))) (length (users_in (n ∷ []))) mid → Grown p s mid (listed (users_in ns)) (length (users_in ns)) after
-    → Grown p s slots (listed (users_in (n ∷ ns))) (length (users_in (n ∷ ns))) after
-named_on p s n ns a b = let e = node_count n ns in grown_as p s (λ v. sym (node_first n ns v)) (omega arith) (grown_on p s a b)
+    → MoreSlots p s slots (listed (users_in (n ∷ []))) (length (users_in (n ∷ []))) mid → MoreSlots p s mid (listed (users_in ns)) (length (users_in ns)) after
+    → MoreSlots p s slots (listed (users_in (n ∷ ns))) (length (users_in (n ∷ ns))) after
+named_on p s n ns a b = let e = node_count n ns in more_as p s (λ v. sym (node_first n ns v)) (omega arith) (more_on p s a b)

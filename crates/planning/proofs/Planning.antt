@@ -1,12 +1,13 @@
 -- What the plan's parts come to.
 use Rattle.std.proofs.Common.{◌≡◌, ℕ, ◌+◌, ◌<◌, ◌≤◌, Bool, true, false, ◌||◌, T, ◌⊎◌, List, [], ◌∷◌, ◌++◌, map, length, get_or, Decides, Result, Ok, Err, not, sym, refl, ap, ◌∙◌, subst, inl, inr, ⊎_elim, arith, length-append}
+use Rattle.meaning.specs.Measures.{roles, rows, users, question_operands}
 use mathlib.Core.Path.{subst⁻¹}
 use Rattle.meaning.specs.Lists.{listed, Nth, first, later}
 use Rattle.meaning.specs.Membership.{State}
 use Rattle.meaning.specs.Rules.{AssignRule, Policy}
 use Rattle.meaning.specs.Sets.{Question, named, names}
 use Rattle.meaning.specs.Rows.{Holder}
-use Rattle.theory.specs.Bounds.{Measured}
+use Rattle.theory.specs.Bounds.{WithinMeasures}
 use Rattle.meaning.proofs.Tests.{either, or_left, or_right, as_true, as_test, listed_left, listed_right, listed_either}
 use Rattle.rbac.specs.declared.users.User.{User as AUser}
 use Rattle.hierarchy.specs.Edges.{no_roles}
@@ -16,22 +17,23 @@ use Rattle.bounded.specs.declared.bounded.Bounded.{Bounded}
 use Rattle.bounded.specs.declared.lists.Full.{Full}
 use Rattle.bounded.specs.Entries.{entries, Pushed}
 use Rattle.bounded.proofs.Listing.{few}
-use Rattle.tables.specs.View.{assign_of, policy_of, state_of}
+use Rattle.tables.specs.View.{assign_of, policy_of, rows_of, state_of, stored_question}
 use Rattle.tables.specs.Rows.{row_at}
 use Rattle.rbac.specs.Roles.{roles_of}
 use Rattle.deciding.proofs.Viewing.{map_length}
 use Rattle.deciding.specs.declared.plan.Slot.{Slot}
 use Rattle.trees.specs.declared.nodes.Node.{Node}
 use Rattle.trees.specs.declared.tree.UserTree.{UserTree}
-use Rattle.tables.specs.View.{set_of, question_of}
+use Rattle.tables.specs.View.{set_of}
 use Rattle.questions.specs.Naming.{users_in}
 use Rattle.questions.proofs.Names.{nodes_name}
-use Rattle.planning.specs.Seats.{Seated, seated}
+use Rattle.deciding.specs.Slots.{users_of}
+use Rattle.planning.specs.Slotted.{PresentSlots, has_slot}
 use Rattle.planning.specs.Plans.{Planned}
-use Rattle.planning.proofs.Ranking.{small, edge_inside}
+use Rattle.planning.proofs.Masking.{small, edge_inside}
 use Rattle.planning.proofs.Rowing.{state_at_lem}
-use Rattle.planning.proofs.Seating.{one_more}
-use Rattle.planning.proofs.Hiring.{numbers, users_of, seated_listed, trusted_listed}
+use Rattle.planning.proofs.Slotting.{one_more}
+use Rattle.planning.proofs.Hiring.{numbers, slotted_listed, trusted_listed}
 
 abbrev All : (AssignRule → Type 0) → List AssignRule → Type 0
 All P [] = Unit {0}
@@ -41,35 +43,35 @@ all_nth : (P : AssignRule → Type 0) {k : ℕ} {rule : AssignRule} {xs : List A
 all_nth P a first = a.0
 all_nth P a (later n) = all_nth P a.1 n
 
-all_small : (xs : List AssignEntry) → All (λ rule. (r : ℕ) → T (rule.targets r) → r < 64) (map assign_of xs)
+all_small : (xs : List AssignEntry) → All (λ rule. (r : ℕ) → T (rule.targets r) → r < roles) (map assign_of xs)
 all_small [] = tt
 all_small (x ∷ xs) = (small x.targets, all_small xs)
 
-pub target_inside : (t : Tables) (k : ℕ) (rule : AssignRule) → Nth k rule (policy_of t).assigns → (r : ℕ) → T (rule.targets r) → r < 64
+pub target_inside : (t : Tables) (k : ℕ) (rule : AssignRule) → Nth k rule (policy_of t).assigns → (r : ℕ) → T (rule.targets r) → r < roles
 unfolding policy_of
-target_inside t k rule nth = all_nth (λ rule. (r : ℕ) → T (rule.targets r) → r < 64) (all_small (entries t.assigns)) nth
+target_inside t k rule nth = all_nth (λ rule. (r : ℕ) → T (rule.targets r) → r < roles) (all_small (entries t.assigns)) nth
 
-pub given_inside : (t : Tables) (n r : ℕ) → T ((policy_of t).gives n r) → r < 64
+pub given_inside : (t : Tables) (n r : ℕ) → T ((policy_of t).gives n r) → r < roles
 unfolding policy_of
 given_inside t n r h = small (get_or t.gives n no_roles) r h
 
 -- the tables are within the measures, where those with a row have a hundred slots at most
-pub measured : (t : Tables) (slots : List Slot) → length slots ≤ 100 → ((v : ℕ) → Decides (seated slots v) (Holder (state_of t) v)) → Measured (policy_of t) (state_of t)
+pub measured : (t : Tables) (slots : List Slot) → length slots ≤ rows → ((v : ℕ) → Decides (has_slot slots v) (Holder (state_of t) v)) → WithinMeasures (policy_of t) (state_of t)
 measured t slots small_enough rowed = record {
-  rowed = users_of slots;
+  row_holders = users_of slots;
   few_rows = let e = map_length (λ (x : Slot). x.user.number) slots in omega arith;
-  all_rowed = λ u h. subst T (seated_listed slots u) (as_test (seated slots u) ((rowed u).1 h));
-  only_rowed = λ u h. (rowed u).0 (as_true (seated slots u) (subst⁻¹ T (seated_listed slots u) h));
-  trusting = numbers (entries t.trusted);
+  all_row_holders = λ u h. subst T (slotted_listed slots u) (as_test (has_slot slots u) ((rowed u).1 h));
+  only_row_holders = λ u h. (rowed u).0 (as_true (has_slot slots u) (subst⁻¹ T (slotted_listed slots u) h));
+  trusted_list = numbers (entries t.trusted);
   few_trusted = let e = map_length (λ (x : AUser). x.number) (entries t.trusted) in omega (arith, few t.trusted);
   all_trusted = trusted_listed t;
-  assigned_inside = λ u r h. let (l, (j, lj, e, x)) = state_at_lem t u r h in (l, small (row_at t.rows j).roles r x);
+  assigned_inside = λ u r h. let (l, (j, lj, e, x)) = state_at_lem t u r h in (l, small (row_at (rows_of t) j).roles r x);
   edges_inside = edge_inside t;
   given_inside = given_inside t;
   targets_inside = target_inside t;
 }
 
--- the users with a row and those the question names are seated
+-- the users with a row and those the question names are has_slot
 pub tracked_are : (q : Question) (s : State) (a b c : ℕ → Bool) (v : ℕ) → Decides (a v) (Holder s v) → b v ≡ (a v || listed (named q.larger) v) → c v ≡ (b v || listed (named q.smaller) v)
     → Decides (c v) (Holder s v ⊎ T (listed (names q) v))
 tracked_are q s a b c v d eb ec = (there, back)
@@ -100,17 +102,17 @@ tracked_are q s a b c v d eb ec = (there, back)
 
 -- the hire in the last slot
 pub planned : (p : Policy) (s : State) (q : Question) (slots : List Slot) (x : Slot)
-    → Seated p s slots → ((v : ℕ) → Decides (seated slots v) (Holder s v ⊎ T (listed (names q) v)))
-    → x.user.number < 65536 → seated slots x.user.number ≡ false → p.trusted x.user.number ≡ false → roles_of x.roles ≡ s x.user.number → x.acts ≡ true
+    → PresentSlots p s slots → ((v : ℕ) → Decides (has_slot slots v) (Holder s v ⊎ T (listed (names q) v)))
+    → x.user.number < users → has_slot slots x.user.number ≡ false → p.trusted x.user.number ≡ false → roles_of x.roles ≡ s x.user.number → x.acts ≡ true
     → Planned p s q (slots ++ x ∷ [])
 planned p s q slots x z tracked small new free row may = record {
-  seats = one_more slots x p s small new row (may ∙ sym (ap not free)) z;
+  present = one_more slots x p s small new row (may ∙ sym (ap not free)) z;
   before = slots;
   hire = x;
   last = refl;
   tracked = tracked;
-  hire_new = new;
-  hire_free = free;
+  hire_not_tracked = new;
+  hire_not_trusted = free;
 }
 
 -- what was put where there was room stands last
@@ -127,6 +129,6 @@ pub sides_name : (x : UserTree) (ns : List Node) → ns ≡ entries x.nodes → 
 sides_name x ns e = ap users_in e ∙ nodes_name x.nodes x.whole
 
 -- are few
-pub few_sides : (x y : UserTree) → length (names (question_of x.nodes y.nodes)) ≤ 32 → (a b : List Node) → a ≡ entries x.nodes → b ≡ entries y.nodes → length (users_in a) + length (users_in b) ≤ 32
+pub few_sides : (x y : UserTree) → length (names (stored_question x.nodes y.nodes)) ≤ question_operands → (a b : List Node) → a ≡ entries x.nodes → b ≡ entries y.nodes → length (users_in a) + length (users_in b) ≤ question_operands
 few_sides x y few a b ea eb =
     omega (arith, ap length (sides_name x a ea), ap length (sides_name y b eb), length-append (named (set_of x.nodes)) (named (set_of y.nodes)), few)

@@ -1,3 +1,3 @@
-pub mod Ranks
-pub mod Seats
+pub mod MasksTold
+pub mod Slotted
 pub mod Plans

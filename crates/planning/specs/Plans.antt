@@ -6,13 +6,13 @@ use Rattle.meaning.specs.Rules.{Policy}
 use Rattle.meaning.specs.Sets.{Question, names}
 use Rattle.meaning.specs.Rows.{Holder}
 use Rattle.deciding.specs.declared.plan.Slot.{Slot}
-use Rattle.planning.specs.Seats.{Seated, seated}
+use Rattle.planning.specs.Slotted.{PresentSlots, has_slot}
 
 pub record Planned (p : Policy) (s : State) (q : Question) (slots : List Slot) : Type 0 where
-  pub seats : Seated p s slots
+  pub present : PresentSlots p s slots
   pub before : List Slot
   pub hire : Slot
   pub last : slots ≡ before ++ (hire ∷ [])
-  pub tracked : (u : User) → Decides (seated before u) (Holder s u ⊎ T (listed (names q) u))
-  pub hire_new : seated before hire.user.number ≡ false
-  pub hire_free : p.trusted hire.user.number ≡ false
+  pub tracked : (u : User) → Decides (has_slot before u) (Holder s u ⊎ T (listed (names q) u))
+  pub hire_not_tracked : has_slot before hire.user.number ≡ false
+  pub hire_not_trusted : p.trusted hire.user.number ≡ false

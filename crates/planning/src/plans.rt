@@ -1,50 +1,51 @@
 // A plan for a question.
 ghost use Rattle.std.specs.Prelude.{◌≡◌, ℕ, ◌+◌, ◌<◌, ◌≤◌, true, false, [], ◌∷◌, length, Decides};
-ghost use Rattle.meaning.specs.Measures.{users, rows, tracked_users, question_operands};
+ghost use Rattle.meaning.specs.Measures.{users, rows, tracked_users};
 ghost use Rattle.meaning.specs.Lists.{listed};
 ghost use Rattle.meaning.specs.Rows.{Holder};
-ghost use Rattle.theory.specs.Bounds.{Measured};
-ghost use Rattle.meaning.specs.Sets.{names};
+ghost use Rattle.theory.specs.Bounds.{WithinMeasures};
 ghost use Rattle.rbac.specs.Roles.{roles_of};
 ghost use Rattle.bounded.specs.Entries.{entries};
-ghost use Rattle.tables.specs.View.{state_of, policy_of, question_of};
-ghost use Rattle.tables.specs.Rows.{is_of, Apart};
+ghost use Rattle.tables.specs.View.{rows_of, state_of, policy_of};
+ghost use Rattle.tables.specs.Rows.{is_of};
+ghost use Rattle.questions.specs.Inquired.{inquired};
 ghost use Rattle.questions.specs.Naming.{users_in};
 ghost use Rattle.deciding.specs.Slots.{slots_of};
 ghost use Rattle.planning.specs.Plans.{Planned};
-ghost use Rattle.planning.specs.Ranks.{Ranked};
-ghost use Rattle.planning.specs.Seats.{Seated, seated, Held, Grown};
+ghost use Rattle.planning.specs.MasksTold.{MasksTell};
+ghost use Rattle.planning.specs.Slotted.{PresentSlots, has_slot, HoldersSlotted, MoreSlots};
 
-use crate::ranks::masks_of;
-use crate::seats::{has_slot, is_trusted, seat};
+use crate::masks::masks_of;
+use crate::slots::{give_slot, has_slot, is_trusted};
 use bounded::Bounded;
 use deciding::{Plan, Slot};
 use meaning::{TRACKED_USERS, TRUSTED_USERS};
+use questions::Inquiry;
 use rbac::{RoleSet, User};
+use soundness::Valid;
 use tables::{Row, Tables};
-use trees::{Node, UserTree};
+use trees::Node;
 
 // Among so many users one has no slot and is not trusted.
 const CANDIDATES: u16 = (TRACKED_USERS + TRUSTED_USERS) as u16;
 
 // Gives a slot to the user of a row in use.
-fn seat_row(tables: &Tables, row: Row, slots: &mut Bounded<Slot, TRACKED_USERS>)
+fn slot_for_row(tables: &Tables, row: Row, slots: &mut Bounded<Slot, TRACKED_USERS>)
     requires room { length (entries slots.old) < tracked_users }
     requires row { row.user.number < users → is_of row.user.number row ≡ true → roles_of row.roles ≡ state_of tables.now row.user.number }
-    ensures { Grown (policy_of tables.now) (state_of tables.now) (entries slots.old) (λ v. is_of v row) 1 (entries slots.new) }
+    ensures { MoreSlots (policy_of tables.now) (state_of tables.now) (entries slots.old) (λ v. is_of v row) 1 (entries slots.new) }
 {
     if row.holder().is_some() {
-        seat(tables, slots, row.user, row.roles);
+        give_slot(tables, slots, row.user, row.roles);
     }
 }
 
 // Slots for all users with a row; these are the rows of the tables.
-fn seat_rows(tables: &Tables, list: &[Row]) -> Bounded<Slot, TRACKED_USERS>
-    requires same { list.now ≡ tables.now.rows }
+fn slots_for_rows(tables: &Tables, list: &[Row]) -> Bounded<Slot, TRACKED_USERS>
+    requires same { list.now ≡ rows_of tables.now }
     requires all { length list.now ≡ rows }
-    requires apart { Apart tables.now }
-    ensures seats { Seated (policy_of tables.now) (state_of tables.now) (entries result) }
-    ensures rowed { (v : ℕ) → Decides (seated (entries result) v) (Holder (state_of tables.now) v) }
+    ensures present { PresentSlots (policy_of tables.now) (state_of tables.now) (entries result) }
+    ensures rowed { (v : ℕ) → Decides (has_slot (entries result) v) (Holder (state_of tables.now) v) }
     ensures few { length (entries result) ≤ rows }
 {
     let mut slots = Bounded::new(Slot {
@@ -53,37 +54,37 @@ fn seat_rows(tables: &Tables, list: &[Row]) -> Bounded<Slot, TRACKED_USERS>
         acts: false,
     });
     for row in list {
-        seat_row(tables, *row, &mut slots);
+        slot_for_row(tables, *row, &mut slots);
     }
     slots
 }
 
 // Gives a slot to the user that a node names.
-fn seat_node(tables: &Tables, node: Node, slots: &mut Bounded<Slot, TRACKED_USERS>)
+fn slot_for_node(tables: &Tables, node: Node, slots: &mut Bounded<Slot, TRACKED_USERS>)
     requires room { length (entries slots.old) + length (users_in (node ∷ [])) < tracked_users }
-    requires held { Held (state_of tables.now) (entries slots.old) }
-    ensures { Grown (policy_of tables.now) (state_of tables.now) (entries slots.old) (listed (users_in (node ∷ []))) (length (users_in (node ∷ []))) (entries slots.new) }
+    requires held { HoldersSlotted (state_of tables.now) (entries slots.old) }
+    ensures { MoreSlots (policy_of tables.now) (state_of tables.now) (entries slots.old) (listed (users_in (node ∷ []))) (length (users_in (node ∷ []))) (entries slots.new) }
 {
     if let Node::User(number) = node {
-        seat(tables, slots, User::from(number), RoleSet::empty());
+        give_slot(tables, slots, User::from(number), RoleSet::empty());
     }
 }
 
 // Gives a slot to every user that the nodes name.
-fn seat_named(tables: &Tables, nodes: &[Node], slots: &mut Bounded<Slot, TRACKED_USERS>)
+fn slots_for_named(tables: &Tables, nodes: &[Node], slots: &mut Bounded<Slot, TRACKED_USERS>)
     requires room { length (entries slots.old) + length (users_in nodes.now) < tracked_users }
-    requires held { Held (state_of tables.now) (entries slots.old) }
-    ensures { Grown (policy_of tables.now) (state_of tables.now) (entries slots.old) (listed (users_in nodes.now)) (length (users_in nodes.now)) (entries slots.new) }
+    requires held { HoldersSlotted (state_of tables.now) (entries slots.old) }
+    ensures { MoreSlots (policy_of tables.now) (state_of tables.now) (entries slots.old) (listed (users_in nodes.now)) (length (users_in nodes.now)) (entries slots.new) }
 {
     for node in nodes {
-        seat_node(tables, *node, slots);
+        slot_for_node(tables, *node, slots);
     }
 }
 
 // A user who is not trusted and has no slot: the least.
 fn hire(tables: &Tables, slots: &[Slot]) -> User
     requires { length slots.now < tracked_users }
-    ensures new { seated slots.now result.number ≡ false }
+    ensures new { has_slot slots.now result.number ≡ false }
     ensures free { (policy_of tables.now).trusted result.number ≡ false }
     ensures inside { result.number < users }
 {
@@ -97,17 +98,16 @@ fn hire(tables: &Tables, slots: &[Slot]) -> User
     unreachable()
 }
 
-// The users with a row, those named in the question's two sets, and one hire, in their slots.
-pub fn plan_of(tables: &Tables, larger: &UserTree, smaller: &UserTree) -> Plan
-    requires apart { Apart tables.now }
-    requires few { length (names (question_of larger.now.nodes smaller.now.nodes)) ≤ question_operands }
-    ensures planned { Planned (policy_of tables.now) (state_of tables.now) (question_of larger.now.nodes smaller.now.nodes) (slots_of result) }
-    ensures ranked { Ranked (policy_of tables.now) result.masks.seniors result.masks.givers }
-    ensures measured { Measured (policy_of tables.now) (state_of tables.now) }
+/// The users with a row, those whom the question names, and one hire, each in a slot, with the masks that the question is worked out with.
+pub fn plan_of(board: &Valid, asked: &Inquiry) -> Plan
+    ensures planned { Planned (policy_of board.now.tables) (state_of board.now.tables) (inquired asked.now) (slots_of result) }
+    ensures masks { MasksTell (policy_of board.now.tables) result.masks.seniors result.masks.givers }
+    ensures measured { WithinMeasures (policy_of board.now.tables) (state_of board.now.tables) }
 {
-    let mut slots = seat_rows(tables, &tables.rows);
-    seat_named(tables, larger.nodes.entries(), &mut slots);
-    seat_named(tables, smaller.nodes.entries(), &mut slots);
+    let tables = &board.tables;
+    let mut slots = slots_for_rows(tables, tables.rows.entries());
+    slots_for_named(tables, asked.larger.nodes.entries(), &mut slots);
+    slots_for_named(tables, asked.smaller.nodes.entries(), &mut slots);
     let user = hire(tables, slots.entries());
     let _ = slots.push(Slot {
         user,

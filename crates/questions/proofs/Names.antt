@@ -1,12 +1,13 @@
 -- The users that a set's nodes name are those that the set names.
 use Rattle.std.proofs.Common.{◌≡◌, ◌<◌, ◌≤◌, Bool, true, false, T, eqb, suc, ltb, List, [], ◌∷◌, ◌++◌, length, filter, cond, ltb-true, eqb→eq, Some, sym, refl, ap, ◌∙◌, ap₂, ⊎_elim, arith}
 use mathlib.Core.Path.{subst⁻¹}
+use Rattle.meaning.specs.Measures.{users}
 use Rattle.meaning.specs.Lists.{listed}
 use Rattle.meaning.specs.Sets.{UserSet, members, holders, only, nobody, union, intersection, named}
 use Rattle.meaning.proofs.Tests.{either}
 use Rattle.trees.specs.declared.nodes.Node.{Node}
 use Rattle.trees.specs.declared.nodes.Node.TheVariants.{Role, Permission, User, Nobody, Or, And}
-use Rattle.trees.specs.Reading.{Nodes, postfix, listed as nodes_of}
+use Rattle.trees.specs.Reading.{Nodes, postfix, nodes_in as nodes_of}
 use Rattle.trees.specs.Trees.{balanced, decode}
 use Rattle.trees.proofs.Whole.{balanced_whole, inverse}
 use Rattle.tables.specs.View.{set_of, or_nobody}
@@ -35,7 +36,7 @@ no_more : (ns : List Node) → length (filter is_inside ns) ≤ length (filter i
 no_more [] = omega arith
 no_more (Role n ∷ ns) = no_more ns
 no_more (Permission n ∷ ns) = no_more ns
-no_more (User u ∷ ns) = one_more (ltb u 65536) (User u) (filter is_inside ns) (filter is_named ns) (no_more ns)
+no_more (User u ∷ ns) = one_more (ltb u users) (User u) (filter is_inside ns) (filter is_named ns) (no_more ns)
 no_more (Nobody ∷ ns) = no_more ns
 no_more (Or ∷ ns) = no_more ns
 no_more (And ∷ ns) = no_more ns
@@ -46,9 +47,9 @@ all_inside [] same = λ u h. absurd h
 all_inside (Role n ∷ ns) same = all_inside ns same
 all_inside (Permission n ∷ ns) same = all_inside ns same
 all_inside (User v ∷ ns) same = λ u h.
-    let (small, rest) = both_passed (ltb v 65536) (User v) (filter is_inside ns) (filter is_named ns) (no_more ns) same in
+    let (small, rest) = both_passed (ltb v users) (User v) (filter is_inside ns) (filter is_named ns) (no_more ns) same in
     ⊎_elim
-    (λ (t : T (eqb u v)). subst⁻¹ (λ k. k < 65536) (eqb→eq u v t) (ltb-true v 65536 small))
+    (λ (t : T (eqb u v)). subst⁻¹ (λ k. k < users) (eqb→eq u v t) (ltb-true v users small))
     (λ (t : T (listed (users_in ns) u)). all_inside ns rest u t)
     (either (eqb u v) (listed (users_in ns) u) h)
 all_inside (Nobody ∷ ns) same = all_inside ns same

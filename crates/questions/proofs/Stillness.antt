@@ -6,7 +6,7 @@ use Rattle.std.proofs.lemmas.List.Folds.{list_all-append}
 use Rattle.meaning.specs.Sets.{UserSet, members, holders, only, nobody, union, intersection, Static}
 use Rattle.trees.specs.declared.nodes.Node.{Node}
 use Rattle.trees.specs.declared.nodes.Node.TheVariants.{Or, And}
-use Rattle.trees.specs.Reading.{Nodes, postfix, listed as nodes_of}
+use Rattle.trees.specs.Reading.{Nodes, postfix, nodes_in as nodes_of}
 use Rattle.trees.specs.Trees.{balanced, decode}
 use Rattle.trees.proofs.Whole.{balanced_whole, inverse}
 use Rattle.tables.specs.View.{set_of, or_nobody}

@@ -1,6 +1,6 @@
 // A question, with its kind. Where one is had, a side of it is static and it names few enough users, all in range, with no further check.
 ghost use Rattle.meaning.specs.Sets.{Askable};
-ghost use Rattle.tables.specs.View.{question_of};
+ghost use Rattle.tables.specs.View.{stored_question};
 
 use meaning::Kind;
 use trees::UserTree;
@@ -10,5 +10,5 @@ pub struct Inquiry {
     pub kind: Kind,
     pub larger: UserTree,
     pub smaller: UserTree,
-    ghost askable: { (Askable (question_of larger.nodes smaller.nodes) → ⊥) → ⊥ },
+    ghost askable: { (Askable (stored_question larger.nodes smaller.nodes) → ⊥) → ⊥ },
 }

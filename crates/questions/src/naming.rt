@@ -1,7 +1,7 @@
 // How many users a set names.
 ghost use Rattle.std.specs.Prelude.{◌≡◌, ◌≤◌, length};
-ghost use Rattle.trees.specs.Reading.{listed as nodes_of};
 ghost use Rattle.questions.specs.Naming.{users_in, is_named, is_inside, AllInside};
+ghost use Rattle.trees.specs.Reading.{nodes_in as nodes_of};
 
 use trees::{Node, UserTree};
 

@@ -3,6 +3,7 @@ use Rattle.std.proofs.Common.{◌≡◌, ℕ, ◌+◌, ◌<◌, Bool, true, fals
 use mathlib.Core.Path.{subst⁻¹}
 use lib.Dec.{eqb_refl}
 use Rattle.std.proofs.lemmas.Bool.{eq-eqb, both_ways}
+use Rattle.meaning.specs.Measures.{users}
 use Rattle.meaning.specs.Lists.{Nth}
 use Rattle.meaning.proofs.Numbered.{at_nth, nth_at as nth_place}
 use Rattle.meaning.proofs.Tests.{second, both, as_true, as_test}
@@ -43,9 +44,9 @@ abbrev pub row_roles : Row → ℕ → Bool
 row_roles x r = roles_of x.roles r
 
 -- what a row's holder tells
-pub holder_tells : (x : Row) (o : Option User) → MatchOption o (is_used x ≡ false) (λ u. (is_used x ≡ true) × (u ≡ x.user) × (u.number < 65536)) → (is_used x ≡ is_some o) × (is_used x ≡ true → x.user.number < 65536)
+pub holder_tells : (x : Row) (o : Option User) → MatchOption o (is_used x ≡ false) (λ u. (is_used x ≡ true) × (u ≡ x.user) × (u.number < users)) → (is_used x ≡ is_some o) × (is_used x ≡ true → x.user.number < users)
 holder_tells x None h = (h, λ e. absurd (both_ways (is_used x) h e))
-holder_tells x (Some u) h = (h.0, λ _. subst (λ (v : User). v.number < 65536) h.1 h.2)
+holder_tells x (Some u) h = (h.0, λ _. subst (λ (v : User). v.number < users) h.1 h.2)
 
 -- a row more: its roles are joined where it is in use, and where it is not it adds nothing
 pub row_counted : (rows : List Row) (i : ℕ) → i < length rows → (before after : ℕ → Bool) → ((r : ℕ) → before r ≡ any row_roles (take i rows) r)
@@ -58,8 +59,8 @@ row_counted rows i l before after h e r =
     some false f true g = sym f ∙ gives_used (row_at rows i) (r, as_test _ g)
     some false f false g = refl
 
-pub held_told : (rows : List Row) (held : ℕ → Bool) → ((r : ℕ) → held r ≡ any row_roles rows r) → ((k : ℕ) → k < length rows → is_used (row_at rows k) ≡ true → (row_at rows k).user.number < 65536)
-    → (r : ℕ) → Decides (held r) ((u : ℕ) × (u < 65536) × T (assigned rows u r))
+pub held_told : (rows : List Row) (held : ℕ → Bool) → ((r : ℕ) → held r ≡ any row_roles rows r) → ((k : ℕ) → k < length rows → is_used (row_at rows k) ≡ true → (row_at rows k).user.number < users)
+    → (r : ℕ) → Decides (held r) ((u : ℕ) × (u < users) × T (assigned rows u r))
 held_told rows held is small r = (
   (λ e.
       let (k, x, n, t) = any_gives row_roles rows r (as_test (any row_roles rows r) (sym (is r) ∙ e)) in

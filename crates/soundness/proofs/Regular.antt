@@ -4,11 +4,12 @@ use mathlib.Core.Path.{subst⁻¹}
 use lib.ListN.{length-map}
 use Rattle.std.proofs.lemmas.List.{nil_from_length}
 use Rattle.std.proofs.lemmas.Bool.{both_ways, eq-eqb, eqb-true}
+use Rattle.meaning.specs.Measures.{users}
 use Rattle.meaning.specs.Membership.{State}
 use Rattle.meaning.specs.Rules.{Policy, aatu, aar, Regime as RegimeMeant}
 use Rattle.meaning.specs.Lists.{Nth}
 use Rattle.meaning.specs.declared.terms.Regime.TheVariants.{Aatu as aatu_here, Aar as aar_here}
-use Rattle.meaning.specs.Regimes.{Administers, Assignable, Revocable, AdminsAreNoTargets, Aatu, Aar, Regular}
+use Rattle.meaning.specs.Regimes.{Administers, Assignable, Revocable, AdminsAreNoTargets, Aatu, Aar, ObeysRegime}
 use Rattle.meaning.proofs.Tests.{either, or_left, or_right, clash, second, both, deny, as_true, as_test}
 use Rattle.rbac.specs.declared.sets.RoleSet.{RoleSet}
 use Rattle.rbac.specs.declared.users.User.{User}
@@ -18,7 +19,7 @@ use Rattle.tables.specs.declared.entries.AssignEntry.{AssignEntry}
 use Rattle.tables.specs.declared.entries.RevokeEntry.{RevokeEntry}
 use Rattle.tables.specs.declared.tables.Tables.{Tables}
 use Rattle.bounded.specs.Entries.{entries}
-use Rattle.tables.specs.View.{assigned, state_of, policy_of, assign_of, revoke_of, names}
+use Rattle.tables.specs.View.{assigned, rows_of, state_of, policy_of, assign_of, revoke_of, is_among}
 use Rattle.soundness.proofs.Naming.{meant}
 use Rattle.tables.proofs.Viewing.{regime_is, trusted_named, trusted_is}
 
@@ -47,11 +48,11 @@ admins_told t es rs es-is rs-is x y s is dx dy r =
       ]),
     )
 
-pub state_held : (t : Tables) (s : RoleSet) → ((r : ℕ) → Decides (roles_of s r) ((u : ℕ) × (u < 65536) × T (assigned t.rows u r))) → (r : ℕ) → Decides (roles_of s r) ((u : ℕ) × (u < 65536) × T (state_of t u r))
+pub state_held : (t : Tables) (s : RoleSet) → ((r : ℕ) → Decides (roles_of s r) ((u : ℕ) × (u < users) × T (assigned (rows_of t) u r))) → (r : ℕ) → Decides (roles_of s r) ((u : ℕ) × (u < users) × T (state_of t u r))
 unfolding state_of
 state_held t s told r = (
-  (λ e. let (u, l, h) = (told r).0 e in (u, l, both (ltb u 65536) (assigned t.rows u r) (lt→ltb u 65536 l) h)),
-  λ (u, l, h). (told r).1 (u, l, second (ltb u 65536) (assigned t.rows u r) h),
+  (λ e. let (u, l, h) = (told r).0 e in (u, l, both (ltb u users) (assigned (rows_of t) u r) (lt→ltb u users l) h)),
+  λ (u, l, h). (told r).1 (u, l, second (ltb u users) (assigned (rows_of t) u r) h),
 )
 
 denied : (b : Bool) → (b ≡ true → ⊥) → not b ≡ true
@@ -91,7 +92,7 @@ within_told P Q a b r da db d = (
 abbrev pub RegimeAsks : RegimeMeant → Policy → State → Type 0
 RegimeAsks g p s = elim g [ aatu ↦ Aatu p | aar ↦ Aar p s ]
 
-pub aatu_kept : (t : Tables) (es : List RevokeEntry) (r : Bool) → t.regime ≡ aatu_here → es ≡ entries t.revokes → r ≡ eqb (length es) 0 → Decides r (Regular (policy_of t) (state_of t))
+pub aatu_kept : (t : Tables) (es : List RevokeEntry) (r : Bool) → t.regime ≡ aatu_here → es ≡ entries t.revokes → r ≡ eqb (length es) 0 → Decides r (ObeysRegime (policy_of t) (state_of t))
 unfolding policy_of
 aatu_kept t es r here is-es is-r = subst⁻¹ (λ (g : RegimeMeant). Decides r (RegimeAsks g (policy_of t) (state_of t))) (regime_is t ∙ ap regime_of here) (
   (λ e. ap (map revoke_of) (sym is-es ∙ nil_from_length es (eqb-true (length es) 0 (sym is-r ∙ e)))),
@@ -100,11 +101,11 @@ aatu_kept t es r here is-es is-r = subst⁻¹ (λ (g : RegimeMeant). Decides r (
 
 -- the first of a list is found where the list has one, and then somebody is trusted
 abbrev pub FirstNamed : List User → Option User → Type 0
-FirstNamed us o = MatchOption o (length us ≡ 0) (λ u. (u.number < 65536) × T (names us u.number))
+FirstNamed us o = MatchOption o (length us ≡ 0) (λ u. (u.number < users) × T (is_among us u.number))
 
 pub nobody_trusted : (t : Tables) (us : List User) (o : Option User) (none : Bool) → us ≡ entries t.trusted → FirstNamed us o → is_some o ≡ not none → Decides none ((u : ℕ) → T (not ((policy_of t).trusted u)))
 nobody_trusted t us None none is_us empty is = (
-  (λ _ u. deny ((policy_of t).trusted u) (λ h. subst (λ (l : List User). T (names l u)) (sym is_us ∙ nil_from_length us empty) (trusted_named t u h))),
+  (λ _ u. deny ((policy_of t).trusted u) (λ h. subst (λ (l : List User). T (is_among l u)) (sym is_us ∙ nil_from_length us empty) (trusted_named t u h))),
   λ _. other none is,
 )
   where
@@ -113,9 +114,9 @@ nobody_trusted t us None none is_us empty is = (
     other false e = e
 nobody_trusted t us (Some v) none is_us (small, named) is = (
   (λ e. absurd (both_ways true (is ∙ ap not e) refl)),
-  λ f. absurd (clash ((policy_of t).trusted v.number) (subst T (trusted_is t v.number small) (subst (λ (l : List User). T (names l v.number)) is_us named)) (f v.number)),
+  λ f. absurd (clash ((policy_of t).trusted v.number) (subst T (trusted_is t v.number small) (subst (λ (l : List User). T (is_among l v.number)) is_us named)) (f v.number)),
 )
 
-pub aar_kept : (t : Tables) (b : Bool) → t.regime ≡ aar_here → Decides b (Aar (policy_of t) (state_of t)) → Decides b (Regular (policy_of t) (state_of t))
+pub aar_kept : (t : Tables) (b : Bool) → t.regime ≡ aar_here → Decides b (Aar (policy_of t) (state_of t)) → Decides b (ObeysRegime (policy_of t) (state_of t))
 unfolding policy_of
 aar_kept t b here d = subst⁻¹ (λ (g : RegimeMeant). Decides b (RegimeAsks g (policy_of t) (state_of t))) (regime_is t ∙ ap regime_of here) d

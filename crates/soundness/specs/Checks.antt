@@ -1,15 +1,9 @@
 -- What the checks of plain tables speak of.
-use Rattle.std.specs.Prelude.{◌≡◌, ℕ, ◌*◌, Bool, true, false, List, length, nat_lt}
+use Rattle.std.specs.Prelude.{Bool, true, false, List, nat_lt}
 use Rattle.std.specs.List.{list_all}
-use Rattle.words.specs.Words.{bits}
-use Rattle.meaning.specs.Measures.{users, roles}
+use Rattle.meaning.specs.Measures.{roles}
 use Rattle.trees.specs.declared.nodes.Node.{Node}
 use Rattle.trees.specs.declared.nodes.Node.TheVariants.{Role, Permission, User, Nobody, Or, And}
-
--- a table with a bit for each user, none of them set
-pub record Blank (words : List ℕ) : Type 0 where
-  pub long : length words * 64 ≡ users
-  pub clear : (u : ℕ) → bits words u ≡ false
 
 -- a role in range, or an operator
 abbrev pub is_role_node : Node → Bool

@@ -1,37 +1,15 @@
-// Whether plain tables are a board's: users have one row each, conditions are sets of roles, and the regime is kept.
+// Whether plain tables are a board's: conditions are sets of roles, and the regime is kept.
 ghost use Rattle.std.specs.Prelude.{◌≡◌, ℕ, Decides};
 ghost use Rattle.meaning.specs.Lists.{Nth};
 ghost use Rattle.tables.specs.declared.entries.AssignEntry.{AssignEntry as Entry};
 ghost use Rattle.bounded.specs.Entries.{entries};
-ghost use Rattle.tables.specs.Rows.{Apart, Clash};
 ghost use Rattle.soundness.specs.Valid.{Whole, Sound};
-ghost use Rattle.soundness.specs.Checks.{Blank, is_role_node, all_roles};
+ghost use Rattle.soundness.specs.Checks.{is_role_node, all_roles};
 
 use crate::regime::regime_kept;
-use meaning::{ROLES, USERS};
-use tables::{AssignEntry, Needs, Row, Tables};
+use meaning::ROLES;
+use tables::{AssignEntry, Needs, Tables};
 use trees::{Node, UserTree};
-use words::{has, put};
-
-// One bit for each user there is.
-const SEEN_WORDS: usize = USERS / 64;
-
-// The users of the rows so far are marked in the table, so no row is compared with another.
-fn apart_in(rows: &[Row], seen: &mut [u64]) -> bool
-    requires { Blank seen.old }
-    ensures { Decides result ((i j : ℕ) → Clash rows.now i j → ⊥) }
-{
-    for row in rows {
-        if let Some(user) = row.holder() {
-            let bit = user.number() as usize;
-            if has(seen, bit) {
-                return false;
-            }
-            let _ = put(seen, bit);
-        }
-    }
-    true
-}
 
 fn is_role_node(node: Node) -> bool
     ensures { result ≡ is_role_node node }
@@ -64,23 +42,16 @@ fn all_whole(rules: &[AssignEntry]) -> bool
     rules.iter().all(|rule| is_whole(&rule.needs))
 }
 
-// Whether no user has two rows.
-pub fn rows_apart(tables: &Tables) -> bool
-    ensures { Decides result (Apart tables.now) }
-{
-    let mut seen = [0; SEEN_WORDS];
-    apart_in(&tables.rows, &mut seen)
-}
-
-// Whether every condition is a set of roles.
+/// Whether every condition of an assign rule is a set of roles.
 pub fn conditions_whole(tables: &Tables) -> bool
     ensures { Decides result ((k : ℕ) (e : Entry) → Nth k e (entries tables.now.assigns) → Whole e.needs) }
 {
     all_whole(tables.assigns.entries())
 }
 
+/// Whether the tables are a board's: every condition is a set of roles, and the regime's properties hold.
 pub fn is_sound(tables: &Tables) -> bool
     ensures { Decides result (Sound tables.now) }
 {
-    rows_apart(tables) && conditions_whole(tables) && regime_kept(tables)
+    conditions_whole(tables) && regime_kept(tables)
 }

@@ -3,9 +3,9 @@ ghost use Rattle.std.specs.Prelude.{◌≡◌, ℕ, ◌<◌, Bool, not, T, lengt
 ghost use Rattle.meaning.specs.Measures.{users};
 ghost use Rattle.meaning.specs.Membership.{User as UserNumber, Role as RoleNumber, IsUser};
 ghost use Rattle.meaning.specs.Lists.{Nth};
-ghost use Rattle.meaning.specs.Regimes.{Administers, Assignable, Revocable, AdminsAreNoTargets, AdminsAreAssigned, AssignableIsRevocable, Aar, Regular};
+ghost use Rattle.meaning.specs.Regimes.{Administers, Assignable, Revocable, AdminsAreNoTargets, AdminsAreAssigned, AssignableIsRevocable, Aar, ObeysRegime};
 ghost use Rattle.rbac.specs.Roles.{roles_of};
-ghost use Rattle.tables.specs.View.{assigned, state_of, policy_of, names};
+ghost use Rattle.tables.specs.View.{assigned, state_of, policy_of, is_among};
 
 use meaning::Regime;
 use rbac::{Role, RoleSet, User};
@@ -83,12 +83,12 @@ fn held_in(rows: &[Row]) -> RoleSet
 
 // The first user that the list names, if it names anybody.
 fn first_named(list: &[User]) -> Option<User>
-    ensures { MatchOption result (length list.now ≡ 0) (λ u. (u.number < users) × T (names list.now u.number)) }
+    ensures { MatchOption result (length list.now ≡ 0) (λ u. (u.number < users) × T (is_among list.now u.number)) }
 {
     list.first().copied()
 }
 
-// The administering roles of all rules.
+/// The administering roles of all rules.
 pub fn admins(tables: &Tables) -> RoleSet
     ensures { (r : RoleNumber) → Decides (roles_of result r) (Administers (policy_of tables.now) r) }
 {
@@ -97,25 +97,25 @@ pub fn admins(tables: &Tables) -> RoleSet
     assigning.union(revoking)
 }
 
-// The targets of assign rules.
+/// The targets of assign rules.
 pub fn assignable(tables: &Tables) -> RoleSet
     ensures { (r : RoleNumber) → Decides (roles_of result r) (Assignable (policy_of tables.now) r) }
 {
     targets_of(tables.assigns.entries())
 }
 
-// The targets of revoke rules.
+/// The targets of revoke rules.
 pub fn revocable(tables: &Tables) -> RoleSet
     ensures { (r : RoleNumber) → Decides (roles_of result r) (Revocable (policy_of tables.now) r) }
 {
     targets_of(tables.revokes.entries())
 }
 
-// The roles that are assigned to somebody.
+/// The roles that are assigned to somebody.
 pub fn held(tables: &Tables) -> RoleSet
     ensures { (r : RoleNumber) → Decides (roles_of result r) ((u : UserNumber) × IsUser u × T (state_of tables.now u r)) }
 {
-    held_in(&tables.rows)
+    held_in(tables.rows.entries())
 }
 
 pub fn admins_are_no_targets(tables: &Tables) -> bool
@@ -153,9 +153,9 @@ fn aar_kept(tables: &Tables) -> bool
         && assignable_is_revocable(tables)
 }
 
-// Whether the board is as its regime asks.
+/// Whether the board is as its regime asks.
 pub fn regime_kept(tables: &Tables) -> bool
-    ensures { Decides result (Regular (policy_of tables.now) (state_of tables.now)) }
+    ensures { Decides result (ObeysRegime (policy_of tables.now) (state_of tables.now)) }
 {
     match tables.regime {
         Regime::Aatu => tables.revokes.entries().is_empty(),

@@ -14,7 +14,7 @@ pub struct Valid {
 }
 
 impl Valid {
-    // These tables, sealed; none where they are no board's.
+    /// These tables, sealed; none where they are no board's.
     pub fn new(tables: Tables) -> Option<Valid>
         ensures { MatchOption result (Sound tables → ⊥) (λ v. (v.tables ≡ tables) × Sound tables) }
     {
@@ -25,7 +25,7 @@ impl Valid {
         }
     }
 
-    // A new board: under aatu, and nothing else.
+    /// A new board: under aatu, and nothing else.
     pub fn new_board() -> Valid
         ensures policy { policy_of result.tables ≡ new_policy }
         ensures state { state_of result.tables ≡ nothing_assigned }

@@ -5,7 +5,8 @@ use Rattle.std.proofs.lemmas.Bool.{cases_eq}
 use Rattle.meaning.proofs.Tests.{either, or_left, or_right, first, second, both, deny, agree}
 use Rattle.tables.specs.declared.entries.Row.{Row}
 use Rattle.tables.specs.View.{assigned}
-use Rattle.tables.specs.Rows.{row_at, no_row, Used, Clash, pairs}
+use Rattle.tables.specs.Rows.{row_at, no_row, Used, OneRowEach}
+use Rattle.tables.specs.Calls.{pairs}
 use Rattle.tables.proofs.Placing.{says, assigned_gives, assigned_at}
 
 -- what a user's pair is
@@ -82,8 +83,8 @@ module _ (rows : List Row) (i : ℕ) (x : Row) (lt : i < length rows) where
         (cases_eq j i))
 
   -- a row that shares its user with no other leaves users one row each
-  pub still_apart : ((a b : ℕ) → Clash rows a b → ⊥) → ((j : ℕ) → j ≢ i → j < length rows → Used (row_at rows j) → (row_at rows j).user.number ≡ x.user.number → ⊥)
-      → (a b : ℕ) → Clash (set rows i x) a b → ⊥
+  pub still_apart : OneRowEach rows → ((j : ℕ) → j ≢ i → j < length rows → Used (row_at rows j) → (row_at rows j).user.number ≡ x.user.number → ⊥)
+      → OneRowEach (set rows i x)
   still_apart apart alone a b (ab, bl, ua, ub, same) =
       let lb = outside b bl in
       ⊎_elim

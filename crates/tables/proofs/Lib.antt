@@ -1,8 +1,10 @@
 pub mod Placing
 pub mod Assigning
 pub mod Rowing
+pub mod Marking
 pub mod Looking
 pub mod Listing
 pub mod Gathering
 pub mod Viewing
+pub mod Freeing
 pub mod Freshness

@@ -1,6 +1,7 @@
 -- The rows of a user are the user's part of the state.
 use Rattle.std.proofs.Common.{◌≡◌, ℕ, ◌<◌, Bool, ◌&&◌, ◌||◌, T, ltb, List, [], ◌∷◌, Decides, sym, refl, ap, ◌∙◌, subst, lt→ltb}
 use mathlib.Core.Path.{subst⁻¹, fun_ext}
+use Rattle.meaning.specs.Measures.{users}
 use Rattle.meaning.specs.Membership.{Member}
 use Rattle.meaning.specs.Sets.{HasPermission}
 use Rattle.meaning.proofs.Tests.{as_true, as_test}
@@ -8,7 +9,7 @@ use Rattle.rbac.specs.declared.sets.RoleSet.{RoleSet}
 use Rattle.rbac.specs.Roles.{roles_of}
 use Rattle.tables.specs.declared.entries.Row.{Row}
 use Rattle.tables.specs.declared.tables.Tables.{Tables}
-use Rattle.tables.specs.View.{assigned, state_of, policy_of}
+use Rattle.tables.specs.View.{assigned, rows_of, state_of, policy_of}
 use Rattle.tables.proofs.Listing.{any}
 use Rattle.tables.proofs.Placing.{says}
 
@@ -22,9 +23,9 @@ assigned_any [] u r = refl
 assigned_any (x ∷ xs) u r = ap (λ b. says x u r || b) (assigned_any xs u r)
 
 -- all rows are passed
-pub rows_passed : (t : Tables) (u : ℕ) → u < 65536 → (s : ℕ → Bool) → ((r : ℕ) → s r ≡ any (saying u) t.rows r) → s ≡ state_of t u
+pub rows_passed : (t : Tables) (u : ℕ) → u < users → (s : ℕ → Bool) → ((r : ℕ) → s r ≡ any (saying u) (rows_of t) r) → s ≡ state_of t u
 unfolding state_of
-rows_passed t u small s is = fun_ext (λ r. is r ∙ assigned_any t.rows u r ∙ ap (λ b. b && assigned t.rows u r) (sym (as_true (ltb u 65536) (lt→ltb u 65536 small))))
+rows_passed t u small s is = fun_ext (λ r. is r ∙ assigned_any (rows_of t) u r ∙ ap (λ b. b && assigned (rows_of t) u r) (sym (as_true (ltb u users) (lt→ltb u users small))))
 
 -- a permission is had where its roles and the user's memberships meet
 pub permission_told : (t : Tables) (u n : ℕ) (row given reached : RoleSet) (r : Bool) → roles_of given ≡ (policy_of t).gives n

@@ -1,6 +1,7 @@
 -- Rows by their places, and what the state says of them.
 use Rattle.std.proofs.Common.{◌≡◌, ℕ, zero, suc, ◌<◌, ◌≤◌, Bool, true, false, not, ◌&&◌, T, eqb, List, [], ◌∷◌, length, Decides, sym, refl, subst, ⊎_elim, not-suc-le-zero, arith}
 use Rattle.std.proofs.lemmas.Bool.{cases_lt, both_ways}
+use Rattle.meaning.specs.Measures.{roles}
 use Rattle.theory.specs.Tests.{some}
 use Rattle.meaning.proofs.Tests.{either, or_left, or_right, as_true, as_test}
 use Rattle.theory.proofs.Tests.{some_at, some_gives}
@@ -28,17 +29,17 @@ assigned_at [] u r i l h = absurd (not-suc-le-zero l)
 assigned_at (x ∷ xs) u r zero l h = or_left (says x u r) (assigned xs u r) h
 assigned_at (x ∷ xs) u r (suc i) l h = or_right (says x u r) (assigned xs u r) (assigned_at xs u r i (omega arith) h)
 
-pub role_small : (x : Row) (r : ℕ) → T (roles_of x.roles r) → r < 64
-role_small x r h = ⊎_elim (λ (l : r < 64). l) (λ (l : 64 ≤ r). absurd (subst T (roles_past x.roles r l) h)) (cases_lt r 64)
+pub role_small : (x : Row) (r : ℕ) → T (roles_of x.roles r) → r < roles
+role_small x r h = ⊎_elim (λ (l : r < roles). l) (λ (l : roles ≤ r). absurd (subst T (roles_past x.roles r l) h)) (cases_lt r roles)
 
 -- a row in use has a role, and one with a role is in use
 pub used_gives : (x : Row) → is_used x ≡ true → Used x
 unfolding is_used
-used_gives x h = let (r, l, t) = some_gives 64 (roles_of x.roles) (as_test (some 64 (roles_of x.roles)) h) in (r, t)
+used_gives x h = let (r, l, t) = some_gives roles (roles_of x.roles) (as_test (some roles (roles_of x.roles)) h) in (r, t)
 
 pub gives_used : (x : Row) → Used x → is_used x ≡ true
 unfolding is_used
-gives_used x (r, t) = as_true (some 64 (roles_of x.roles)) (some_at 64 (roles_of x.roles) r (role_small x r t) t)
+gives_used x (r, t) = as_true (some roles (roles_of x.roles)) (some_at roles (roles_of x.roles) r (role_small x r t) t)
 
 pub used_is : (x : Row) (empty : Bool) → Decides empty ((k : ℕ) → roles_of x.roles k ≡ false) → not empty ≡ is_used x
 used_is x true d = sym (unused (is_used x) refl)

@@ -9,7 +9,7 @@ use Rattle.meaning.specs.Terms.{regime_of}
 use Rattle.rbac.specs.declared.users.User.{User}
 use Rattle.rbac.specs.Roles.{roles_of}
 use Rattle.hierarchy.specs.Edges.{edges_of, no_roles}
-use Rattle.trees.specs.Reading.{Nodes, listed}
+use Rattle.trees.specs.Reading.{Nodes, nodes_in}
 use Rattle.trees.specs.Trees.{decode}
 use Rattle.tables.specs.declared.entries.Row.{Row}
 use Rattle.tables.specs.declared.entries.Needs.{Needs}
@@ -27,8 +27,12 @@ unfoldable pub assigned : List Row → State
 assigned [] u r = false
 assigned (x ∷ xs) u r = (u == x.user.number && roles_of x.roles r) || assigned xs u r
 
+-- the rows of the tables in their places
+abbrev pub rows_of : Tables → List Row
+rows_of t = t.rows.list
+
 unfoldable pub state_of : Tables → State
-state_of t u r = nat_lt u users && assigned t.rows u r
+state_of t u r = nat_lt u users && assigned (rows_of t) u r
 
 -- the set that nodes say; nodes that are no set's say nobody
 abbrev pub or_nobody : Option UserSet → UserSet
@@ -36,7 +40,7 @@ or_nobody (Some x) = x
 or_nobody None = nobody
 
 abbrev pub set_of : Nodes → UserSet
-set_of n = or_nobody (decode (listed n))
+set_of n = or_nobody (decode (nodes_in n))
 
 abbrev pub condition_of : Needs → Condition
 condition_of Everybody = everybody
@@ -49,27 +53,27 @@ assign_of e = record { admin = e.admin.number; condition = condition_of e.needs;
 abbrev pub revoke_of : RevokeEntry → RevokeRule
 revoke_of e = record { admin = e.admin.number; targets = roles_of e.targets }
 
-abbrev pub question_of : Nodes → Nodes → Question
-question_of larger smaller = record { larger = set_of larger; smaller = set_of smaller }
+abbrev pub stored_question : Nodes → Nodes → Question
+stored_question larger smaller = record { larger = set_of larger; smaller = set_of smaller }
 
 abbrev pub demanded : Demand → Question → Requirement
 demanded Always q = always q
 demanded Never q = never q
 
 abbrev pub requirement_of : RequirementEntry → Requirement
-requirement_of e = demanded e.demand (question_of e.larger e.smaller)
+requirement_of e = demanded e.demand (stored_question e.larger e.smaller)
 
 -- the user stands in the list
-abbrev pub names : List User → ℕ → Bool
-names [] u = false
-names (x ∷ xs) u = u == x.number || names xs u
+abbrev pub is_among : List User → ℕ → Bool
+is_among [] u = false
+is_among (x ∷ xs) u = u == x.number || is_among xs u
 
 unfoldable pub policy_of : Tables → Policy
 policy_of t = record {
   regime = regime_of t.regime;
   edge = edges_of t.hierarchy;
   gives = λ n r. roles_of (slice_index_or t.gives n no_roles) r;
-  trusted = λ u. nat_lt u users && names (entries t.trusted) u;
+  trusted = λ u. nat_lt u users && is_among (entries t.trusted) u;
   assigns = map assign_of (entries t.assigns);
   revokes = map revoke_of (entries t.revokes);
 }

@@ -2,38 +2,33 @@
 ghost use Rattle.std.specs.Prelude.{◌≡◌, []};
 ghost use Rattle.tables.specs.View.{state_of, policy_of, requirements_of};
 ghost use Rattle.bounded.specs.Entries.{entries};
-ghost use Rattle.tables.specs.Rows.{Apart};
 ghost use Rattle.tables.specs.Fresh.{nothing_assigned, new_policy};
 
-use crate::entries::{AssignEntry, Demand, Needs, RequirementEntry, RevokeEntry, Row};
+use crate::entries::{AssignEntry, Demand, Needs, RequirementEntry, RevokeEntry};
+use crate::rows::Rows;
 use crate::tables::Tables;
 use bounded::Bounded;
 use hierarchy::Hierarchy;
-use meaning::{PERMISSIONS, ROWS, Regime};
+use meaning::{PERMISSIONS, Regime};
 use rbac::{Role, RoleSet, User};
 use trees::no_nodes;
 
 impl Tables {
-    // Under aatu, and nothing else.
+    /// Under aatu, and nothing else.
     pub fn new() -> Tables
         ensures policy { policy_of result ≡ new_policy }
         ensures state { state_of result ≡ nothing_assigned }
         ensures requirements { requirements_of result ≡ [] }
-        ensures apart { Apart result }
         ensures nobody { entries result.trusted ≡ [] }
     {
         let admin = Role::modulo(0);
         let targets = RoleSet::empty();
-        let row = Row {
-            user: User::from(0),
-            roles: RoleSet::empty(),
-        };
         Tables {
             regime: Regime::Aatu,
-            rows: [row; ROWS],
+            rows: Rows::free(),
             hierarchy: Hierarchy::new(),
             gives: [RoleSet::empty(); PERMISSIONS],
-            trusted: Bounded::new(row.user),
+            trusted: Bounded::new(User::from(0)),
             assigns: Bounded::new(AssignEntry {
                 admin,
                 needs: Needs::Everybody,

@@ -23,11 +23,11 @@ impl Row {
 }
 
 impl Tables {
-    // The roles assigned to a user.
+    /// The roles assigned to a user.
     pub fn assigned(&self, user: User) -> RoleSet
         ensures { roles_of result ≡ state_of self.now user.number }
     {
-        self.rows.iter().fold(
+        self.rows.entries().iter().fold(
             RoleSet::empty(),
             |roles, row| roles.union(row.roles_of(user)),
         )

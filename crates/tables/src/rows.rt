@@ -1,17 +1,24 @@
-// Rows: one is found by its user, lent for a change, and free again when its last role goes.
-ghost use Rattle.std.specs.Prelude.{◌≡◌, ◌<◌, true, false, not, ◌&&◌, nat_lt, position, MatchOption};
+// The rows of a board. A row is found by its user, lent for a change, and free again when its last role goes; no user has two.
+ghost use Rattle.std.specs.Prelude.{◌≡◌, ℕ, ◌<◌, false, true, not, ◌&&◌, nat_lt, length, position, Decides, MatchOption};
 ghost use Rattle.std.specs.Fn.{FnOnceReturnsAtMut};
 ghost use Rattle.meaning.specs.Measures.{users, rows};
-ghost use Rattle.tables.specs.Rows.{Given, Taken, Lent, is_used, is_of, AllAssigned, AllUnassigned, Assigned, Unassigned};
-ghost use Rattle.rbac.specs.Roles.{roles_of};
+ghost use Rattle.tables.specs.Rows.{Blank, OneRowEach, Given, Taken, Lent, LeavesOneRowEach, is_used, is_of, row_at};
 
 use crate::entries::Row;
-use crate::tables::Tables;
-use rbac::{Role, RoleSet, User};
+use meaning::{ROWS, USERS};
+use rbac::{RoleSet, User};
+use words::{has, put};
 
-// Every row is in use, and none of them is the user's.
-#[derive(Clone, Copy, PartialEq, Eq, Debug)]
-pub struct RowsFull;
+// One bit for each user there is.
+const SEEN_WORDS: usize = USERS / 64;
+
+/// A table of rows in which no user has two.
+#[derive(Clone, Copy)]
+pub struct Rows {
+    list: [Row; ROWS],
+    ghost full: { length list ≡ rows },
+    ghost apart: { OneRowEach list },
+}
 
 impl Row {
     fn is_used(&self) -> bool
@@ -26,7 +33,7 @@ impl Row {
         self.is_used() && self.user == user
     }
 
-    // The user, where the row is in use.
+    /// The user, where the row is in use.
     pub fn holder(&self) -> Option<User>
         ensures { MatchOption result (is_used self.now ≡ false) (λ u. (is_used self.now ≡ true) × (u ≡ self.now.user) × (u.number < users)) }
     {
@@ -34,7 +41,7 @@ impl Row {
     }
 
     // The row holds these roles too, for this user.
-    fn give(&mut self, user: User, roles: RoleSet)
+    pub(crate) fn give(&mut self, user: User, roles: RoleSet)
         ensures { Given user roles self.old self.new }
     {
         self.user = user;
@@ -42,68 +49,85 @@ impl Row {
     }
 
     // The row holds these roles no more.
-    fn take(&mut self, roles: RoleSet)
+    pub(crate) fn take(&mut self, roles: RoleSet)
         ensures { Taken roles self.old self.new }
     {
         self.roles = self.roles.difference(roles);
     }
 }
 
-impl Tables {
-    // Lends one row for a change; no other row, and nothing else, is touched.
-    fn lend<F: FnOnce(&mut Row)>(&mut self, place: usize, change: F)
-        requires inside { place < rows }
-        requires callable { F.IsAlwaysCallable change }
-        ensures { Lent (λ old new. FnOnceReturnsAtMut F.FnOnce change old tt new) self.old place self.new }
+// The users of the rows so far are marked in the table, so no row is compared with another.
+fn apart_in(rows: &[Row], seen: &mut [u64]) -> bool
+    requires { Blank seen.old }
+    ensures { Decides result (OneRowEach rows.now) }
+{
+    for row in rows {
+        if let Some(user) = row.holder() {
+            let bit = user.number() as usize;
+            if has(seen, bit) {
+                return false;
+            }
+            let _ = put(seen, bit);
+        }
+    }
+    true
+}
+
+impl Rows {
+    /// These rows in their order; none where a user has two.
+    pub fn new(list: [Row; ROWS]) -> Option<Rows>
+        ensures { MatchOption result (OneRowEach list → ⊥) (λ r. r.list ≡ list) }
     {
-        change(&mut self.rows[place]);
+        let mut seen = [0; SEEN_WORDS];
+        if !apart_in(&list, &mut seen) {
+            return None;
+        }
+        Some(Rows { list })
     }
 
-    fn place_of(&self, user: User) -> Option<usize>
-        ensures { result ≡ position (is_of user.number) self.now.rows }
+    /// Rows that are all free.
+    pub fn free() -> Rows
+        ensures { (i : ℕ) → i < rows → is_used (row_at result.list i) ≡ false }
     {
-        self.rows.iter().position(|row| row.is_of(user))
-    }
-
-    fn free_place(&self) -> Option<usize>
-        ensures unused { result ≡ position (λ row. not (is_used row)) self.now.rows }
-        ensures held { result ≡ position (λ row. not (is_used row && nat_lt row.user.number users)) self.now.rows }
-    {
-        self.rows.iter().position(|row| row.holder().is_none())
-    }
-
-    // Assigns roles to a user; nothing is changed where the user has no row and none is free.
-    pub fn assign_all(&mut self, user: User, roles: RoleSet) -> Result<(), RowsFull>
-        ensures { AllAssigned self.old user.number (roles_of roles) result self.new }
-    {
-        let place = self
-            .place_of(user)
-            .or_else(|| self.free_place())
-            .ok_or(RowsFull)?;
-        self.lend(place, |row| row.give(user, roles));
-        Ok(())
-    }
-
-    // Takes roles from a user.
-    pub fn unassign_all(&mut self, user: User, roles: RoleSet)
-        ensures { AllUnassigned self.old user.number (roles_of roles) self.new }
-    {
-        if let Some(place) = self.place_of(user) {
-            self.lend(place, |row| row.take(roles));
+        let blank = Row {
+            user: User::from(0),
+            roles: RoleSet::empty(),
+        };
+        Rows {
+            list: [blank; ROWS],
         }
     }
 
-    // Assigns one role.
-    pub fn assign(&mut self, user: User, role: Role) -> Result<(), RowsFull>
-        ensures { Assigned self.old user.number role.number result self.new }
+    /// All of them in their order, the free ones too.
+    pub fn entries(&self) -> &[Row]
+        ensures all { result.now ≡ self.now.list }
+        ensures many { length result.now ≡ rows }
     {
-        self.assign_all(user, RoleSet::one(role))
+        &self.list
     }
 
-    // Takes one role.
-    pub fn unassign(&mut self, user: User, role: Role)
-        ensures { Unassigned self.old user.number role.number self.new }
+    // Lends one row for a change that leaves users one row each; no other row is touched.
+    pub(crate) fn lend<F: FnOnce(&mut Row)>(&mut self, place: usize, change: F)
+        requires inside { place < rows }
+        requires callable { F.IsAlwaysCallable change }
+        requires apart { LeavesOneRowEach (λ old new. FnOnceReturnsAtMut F.FnOnce change old tt new) self.old.list place }
+        ensures { Lent (λ old new. FnOnceReturnsAtMut F.FnOnce change old tt new) self.old.list place self.new.list }
     {
-        self.unassign_all(user, RoleSet::one(role));
+        change(&mut self.list[place]);
+    }
+
+    // The place of the user's row, counted from 0.
+    pub(crate) fn place_of(&self, user: User) -> Option<usize>
+        ensures { result ≡ position (is_of user.number) self.now.list }
+    {
+        self.list.iter().position(|row| row.is_of(user))
+    }
+
+    // The place of the first row that is free.
+    pub(crate) fn free_place(&self) -> Option<usize>
+        ensures unused { result ≡ position (λ row. not (is_used row)) self.now.list }
+        ensures held { result ≡ position (λ row. not (is_used row && nat_lt row.user.number users)) self.now.list }
+    {
+        self.list.iter().position(|row| row.holder().is_none())
     }
 }

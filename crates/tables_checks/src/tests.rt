@@ -1,13 +1,13 @@
 // Each function takes one promise to its edges.
 use hierarchy::Edge;
-use meaning::Regime;
+use meaning::{ROWS, Regime};
 use rbac::{Permission, Role, RoleSet, User};
 use soundness::{
     Valid, admins_are_assigned, admins_are_no_targets, assignable_is_revocable, conditions_whole,
-    held, is_sound, regime_kept, rows_apart,
+    held, is_sound, regime_kept,
 };
 use std::test::Fail;
-use tables::{AssignEntry, Bounded, Full, Needs, RevokeEntry, Row, RowsFull, Tables};
+use tables::{AssignEntry, Bounded, Full, Needs, RevokeEntry, Row, Rows, RowsFull, Tables};
 use trees::{Node, no_nodes};
 
 #[test]
@@ -68,16 +68,18 @@ fn two_rows_of_one_user_are_no_board(rt: HostRuntime) -> Result<(), Fail> {
     let mut tables = Tables::new();
     let user = User::new(65_535).ok_or(1)?;
     let role = Role::new(63).ok_or(1)?;
-    tables.rows[3] = Row {
+    let free = Row {
         user,
-        roles: RoleSet::one(role),
+        roles: RoleSet::empty(),
     };
+    let mut list = [free; ROWS];
+    list[3].roles = RoleSet::one(role);
+    tables.rows = Rows::new(list).ok_or(1)?;
     assert!(rt; is_sound(&tables));
-    tables.rows[99] = tables.rows[3];
-    assert!(rt; !rows_apart(&tables));
-    assert!(rt; Valid::new(tables).is_none());
-    tables.rows[99].roles = RoleSet::empty();
-    assert!(rt; rows_apart(&tables));
+    list[99] = list[3];
+    assert!(rt; Rows::new(list).is_none());
+    list[99].roles = RoleSet::empty();
+    assert!(rt; Rows::new(list).is_some());
     Ok(())
 }
 

@@ -1,5 +1,6 @@
 -- The tests at the slots say whether the question is true in a state.
 use Rattle.std.proofs.Common.{◌≡◌, ℕ, zero, suc, ◌+◌, ◌<◌, ◌≤◌, Bool, true, false, not, ◌&&◌, T, eqb, ◌⊎◌, ◌↔◌, List, Some, sym, refl, ap, ◌∙◌, ap₂, inl, inr, ⊎_elim, not-suc-le-zero, arith, eqb→eq}
+use Rattle.meaning.specs.Measures.{roles}
 use mathlib.Core.Path.{subst⁻¹}
 use lib.Dec.{eqb_refl}
 use Rattle.std.proofs.lemmas.Bool.{cases_eq}
@@ -7,35 +8,34 @@ use Rattle.steps.specs.Steps.{count}
 use Rattle.meaning.specs.Membership.{User, Role, Row, State}
 use Rattle.meaning.specs.Rules.{Policy}
 use Rattle.meaning.specs.Sets.{UserSet, members, holders, only, nobody, union, intersection, In, HasPermission, Question, Holds, Static, SemiStatic}
-use Rattle.theory.specs.Hire.{Tracking, Looked}
-use Rattle.theory.specs.Verdicts.{Covers, HoldsHere}
-use Rattle.theory.specs.Delegation.{member_test}
+use Rattle.theory.specs.Hire.{Tracking, TrackedOrHire}
+use Rattle.theory.specs.Verdicts.{TracksNamedUsers, HoldsAmongTracked}
 use Rattle.theory.specs.Reach.{◌⊑◌}
 use Rattle.meaning.proofs.Tests.{either, first, second, both, or_left, or_right, clash, decide}
 use Rattle.theory.proofs.Tests.{some_at, some_gives}
-use Rattle.theory.proofs.Delegate.{member_test_lem}
+use Rattle.deciding.proofs.Telling.{member_test_lem}
 use Rattle.theory.proofs.Growing.{inside}
 use Rattle.theory.proofs.Exact.{static, static_widely, alike, wx, wy}
 use Rattle.rbac.specs.declared.sets.RoleSet.{RoleSet}
 use Rattle.rbac.specs.declared.users.User.{User as AUser}
-use Rattle.deciding.specs.Masked.{down_of, in_test}
-use Rattle.planning.specs.Ranks.{Ranked}
+use Rattle.deciding.specs.Masked.{member_test, down_of, in_test}
+use Rattle.planning.specs.MasksTold.{MasksTell}
 use Rattle.verdicts.specs.Looking.{passed, one}
 
 -- by masks, a user is in a set
-module _ (p : Policy) (seniors givers : List RoleSet) (ranked : Ranked p seniors givers) (u : AUser) (row : Row) (small : (r : Role) → T (row r) → r < 64) where
+module _ (p : Policy) (seniors givers : List RoleSet) (masks : MasksTell p seniors givers) (u : AUser) (row : Row) (small : (r : Role) → T (row r) → r < roles) where
   abbrev test : UserSet → Bool
   test x = in_test seniors givers (Some u) row x
 
   has_given_lem : (m : ℕ) → T (member_test (down_of givers) row m) ↔ HasPermission p row m
   has_given_lem m = (
-    (λ h. let (k, l, t) = some_gives 64 (λ k. row k && down_of givers k m) h in
-        let (r, g, s) = (ranked.giver k m l).0 (second (row k) (down_of givers k m) t) in (r, g, (k, s, first (row k) (down_of givers k m) t))),
-    λ (r, g, (k, s, t)). some_at 64 (λ k. row k && down_of givers k m) k (small k t) (both (row k) (down_of givers k m) t ((ranked.giver k m (small k t)).1 (r, g, s))),
+    (λ h. let (k, l, t) = some_gives roles (λ k. row k && down_of givers k m) h in
+        let (r, g, s) = (masks.giver k m l).0 (second (row k) (down_of givers k m) t) in (r, g, (k, s, first (row k) (down_of givers k m) t))),
+    λ (r, g, (k, s, t)). some_at roles (λ k. row k && down_of givers k m) k (small k t) (both (row k) (down_of givers k m) t ((masks.giver k m (small k t)).1 (r, g, s))),
   )
 
   pub test_in : (x : UserSet) → T (test x) → In p row u.number x
-  test_in (members r) h = (member_test_lem p (down_of seniors) ranked.senior row small r).0 h
+  test_in (members r) h = (member_test_lem p (down_of seniors) masks.senior row small r).0 h
   test_in (holders m) h = (has_given_lem m).0 h
   test_in (only v) h = eqb→eq u.number v h
   test_in nobody h = h
@@ -43,7 +43,7 @@ module _ (p : Policy) (seniors givers : List RoleSet) (ranked : Ranked p seniors
   test_in (intersection x y) h = (test_in x (first (test x) (test y) h), test_in y (second (test x) (test y) h))
 
   pub in_test_lem : (x : UserSet) → In p row u.number x → T (test x)
-  in_test_lem (members r) h = (member_test_lem p (down_of seniors) ranked.senior row small r).1 h
+  in_test_lem (members r) h = (member_test_lem p (down_of seniors) masks.senior row small r).1 h
   in_test_lem (holders m) h = (has_given_lem m).1 h
   in_test_lem (only v) h = subst⁻¹ (λ w. T (eqb w v)) h (eqb_refl v)
   in_test_lem nobody h = h
@@ -108,9 +108,9 @@ count_change f g j (suc n) l same = ⊎_elim
     (cases_eq j n)
 
 -- where one side is static, and nobody outside the table has a role, the question is asked of those that are looked at alone
-module _ {p : Policy} {s : State} (k : Tracking p s) (q : Question) (covers : Covers k q) (semi : SemiStatic q) (t : State)
-    (others : (u : User) (r : Role) → T (t u r) → Looked k u) where
-  pub here_holds : HoldsHere k t q → Holds p t q
+module _ {p : Policy} {s : State} (k : Tracking p s) (q : Question) (covers : TracksNamedUsers k q) (semi : SemiStatic q) (t : State)
+    (others : (u : User) (r : Role) → T (t u r) → TrackedOrHire k u) where
+  pub here_holds : HoldsAmongTracked k t q → Holds p t q
   here_holds here u u-user i = go semi (decide (k.tracked u))
     where
       go : Static q.larger ⊎ Static q.smaller → T (k.tracked u) ⊎ T (not (k.tracked u)) → In p (t u) u q.larger
@@ -126,6 +126,6 @@ module _ {p : Policy} {s : State} (k : Tracking p s) (q : Question) (covers : Co
           hired (inr ne) =
               let a : In p (t u) k.hire q.smaller = alike p k.tracked (t u) u k.hire new q.smaller (wy k q covers) i in
               let b : In p (t k.hire) k.hire q.smaller = inside p (t u) (t k.hire) (bare ne) k.hire q.smaller a in
-              let c : In p (t k.hire) k.hire q.larger = here k.hire k.hire_user (inr refl) b in
+              let c : In p (t k.hire) k.hire q.larger = here k.hire k.hire_is_user (inr refl) b in
               let d : In p (t u) k.hire q.larger = static p (t k.hire) (t u) k.hire q.larger st c in
-              alike p k.tracked (t u) k.hire u k.hire_new q.larger (wx k q covers) d
+              alike p k.tracked (t u) k.hire u k.hire_not_tracked q.larger (wx k q covers) d

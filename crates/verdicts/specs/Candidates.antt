@@ -11,21 +11,21 @@ use Rattle.meaning.specs.Terms.{IsYes, side}
 use Rattle.meaning.specs.declared.terms.Kind.{Kind}
 use Rattle.meaning.specs.declared.terms.Side.{Side}
 use Rattle.theory.specs.declared.place.Place.{Place}
-use Rattle.theory.specs.declared.place.Place.TheVariants.{Floor, Top}
+use Rattle.theory.specs.declared.place.Place.TheVariants.{LeastState, GreatestState}
 use Rattle.deciding.specs.declared.runs.RunStep.{RunStep}
 use Rattle.deciding.specs.declared.plan.Slot.{Slot}
-use Rattle.planning.specs.Seats.{seated}
-use Rattle.verdicts.specs.Looking.{changes}
+use Rattle.planning.specs.Slotted.{has_slot}
+use Rattle.verdicts.specs.Looking.{as_changes}
 
 -- to the greatest state by adding, to the least by removing
 abbrev pub adds_to : Place → Bool
-adds_to Floor = false
-adds_to Top = true
+adds_to LeastState = false
+adds_to GreatestState = true
 
 -- the first n places are such a run to this place, by and to users who have slots
 pub record Candidate (p : Policy) (s : State) (q : Question) (slots : List Slot) (place : Place) (n : ℕ) (list : List RunStep) : Type 0 where
   pub few : n ≤ list_places
-  pub lawful : Run (moves p) s (changes (adds_to place) (take n list))
-  pub one_way : OnlyAdds (changes (adds_to place) (take n list)) ⊎ OnlyRemoves (changes (adds_to place) (take n list))
-  pub names : Each (λ u. T (seated slots u)) (changes (adds_to place) (take n list))
-  pub decided : (kind : Kind) (fixed : Side) → VerdictExact kind fixed place → Static (side fixed q) → IsYes kind p s q ↔ Holds p (end s (changes (adds_to place) (take n list))) q
+  pub lawful : Run (moves p) s (as_changes (adds_to place) (take n list))
+  pub one_way : OnlyAdds (as_changes (adds_to place) (take n list)) ⊎ OnlyRemoves (as_changes (adds_to place) (take n list))
+  pub names : Each (λ u. T (has_slot slots u)) (as_changes (adds_to place) (take n list))
+  pub decided : (kind : Kind) (fixed : Side) → VerdictExact kind fixed place → Static (side fixed q) → IsYes kind p s q ↔ Holds p (end s (as_changes (adds_to place) (take n list))) q

@@ -1,6 +1,6 @@
 pub mod Looking
-pub mod Ready
+pub mod PlanFits
 pub mod Revoking
-pub mod Stripped
+pub mod AllTaken
 pub mod Candidates
 pub mod Verdict

@@ -2,21 +2,21 @@
 ghost use Rattle.std.specs.Prelude.{◌≡◌, ℕ, ◌<◌, length};
 ghost use Rattle.rbac.specs.Roles.{roles_of};
 ghost use Rattle.questions.specs.Inquired.{inquired};
-ghost use Rattle.deciding.specs.Slots.{slots_of, user_at};
+ghost use Rattle.deciding.specs.Slots.{slots_of, slot_user};
 ghost use Rattle.verdicts.specs.Looking.{passed, failing as failing_count};
 
 use deciding::{Plan, Slot, in_set};
 use questions::Inquiry;
 use rbac::{RoleSet, User};
-use tables::Tables;
+use soundness::Valid;
 use words::word;
 
-// What every part of the deciding is lent. That the plan is made for this question of these tables is no proposition to the checker,
+// What every part of the deciding is lent. That the plan is made for this question of this board is no proposition to the checker,
 // since it names the slot of the hire, which no double negation gives back;
 // so it cannot be a fact of the type, and the parts that need it ask for it.
 #[derive(Clone, Copy)]
 pub(crate) struct Case<'a> {
-    pub tables: &'a Tables,
+    pub board: &'a Valid,
     pub asked: &'a Inquiry,
     pub plan: &'a Plan,
 }
@@ -55,9 +55,9 @@ impl<'a> Case<'a> {
 
 // The slot of a user who has one.
 pub(crate) fn slot_of(slots: &[Slot], user: User) -> usize
-    requires { (i : ℕ) × (i < length slots.now) × (user_at slots.now i ≡ user.number) }
+    requires { (i : ℕ) × (i < length slots.now) × (slot_user slots.now i ≡ user.number) }
     ensures below { result < length slots.now }
-    ensures is { user_at slots.now result ≡ user.number }
+    ensures is { slot_user slots.now result ≡ user.number }
 {
     match slots.iter().position(|slot| slot.user == user) {
         Some(slot) => slot,

@@ -3,8 +3,8 @@ ghost use Rattle.std.specs.Prelude.{◌+◌, ◌*◌, ◌<◌, ◌≤◌, length
 ghost use Rattle.meaning.specs.Measures.{roles, list_places};
 ghost use Rattle.deciding.specs.Slots.{slots_of};
 ghost use Rattle.tables.specs.View.{policy_of, state_of};
-ghost use Rattle.verdicts.specs.Ready.{ReadyCase};
-ghost use Rattle.verdicts.specs.Stripped.{Taken, Stripped};
+ghost use Rattle.verdicts.specs.PlanFits.{CaseFits};
+ghost use Rattle.verdicts.specs.AllTaken.{TakingFound, AllTaken};
 
 use crate::case::Case;
 use crate::revoking::{holder, revoker};
@@ -15,16 +15,16 @@ use rbac::Role;
 impl Case<'_> {
     // How the role is taken from the user of the slot, where it is assigned to that user and a revoke rule has it as target.
     fn taken(&self, slot: usize, role: Role) -> Option<RunStep>
-        requires ready { ReadyCase self.now }
+        requires plan_fits { CaseFits self.now }
         requires slot { slot < length (slots_of self.now.plan.now) }
-        ensures { Taken (policy_of self.now.tables.now) (state_of self.now.tables.now) (slots_of self.now.plan.now) slot role.number result }
+        ensures { TakingFound (policy_of self.now.board.now.tables) (state_of self.now.board.now.tables) (slots_of self.now.plan.now) slot role.number result }
     {
         let slots = self.slots();
         let from = slots[slot];
         if !from.roles.contains(role) {
             return None;
         }
-        let by = revoker(self.tables, role)?;
+        let by = revoker(&self.board.tables, role)?;
         Some(RunStep {
             actor: slots[holder(slots, by.admin)].user,
             user: from.user,
@@ -34,10 +34,10 @@ impl Case<'_> {
     }
 
     // Lists the steps that take all that can be taken, and returns their number. A fact is a slot and a role, so the facts are a plain range; the list is lent, so a step is put at the first place that has none.
-    pub(crate) fn strip(&self, list: &mut [RunStep]) -> usize
-        requires ready { ReadyCase self.now }
+    pub(crate) fn take_all(&self, list: &mut [RunStep]) -> usize
+        requires plan_fits { CaseFits self.now }
         requires room { list_places ≤ length list.old }
-        ensures { Stripped (policy_of self.now.tables.now) (state_of self.now.tables.now) (slots_of self.now.plan.now) (roles * length (slots_of self.now.plan.now)) result list.new }
+        ensures { AllTaken (policy_of self.now.board.now.tables) (state_of self.now.board.now.tables) (slots_of self.now.plan.now) (roles * length (slots_of self.now.plan.now)) result list.new }
     {
         let mut n = 0;
         for fact in 0..ROLES * self.slots().len() {

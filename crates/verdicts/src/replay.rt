@@ -7,9 +7,9 @@ ghost use Rattle.rbac.specs.Roles.{roles_of};
 ghost use Rattle.questions.specs.Inquired.{inquired};
 ghost use Rattle.tables.specs.View.{policy_of, state_of};
 ghost use Rattle.deciding.specs.Slots.{slots_of};
-ghost use Rattle.planning.specs.Seats.{seated};
-ghost use Rattle.verdicts.specs.Looking.{failing as failing_count, Says, change_of, one, turned, FoundAt};
-ghost use Rattle.verdicts.specs.Ready.{ReadyCase, Sitting};
+ghost use Rattle.planning.specs.Slotted.{has_slot};
+ghost use Rattle.verdicts.specs.Looking.{failing as failing_count, WordsSay, change_of, one, turned, FoundAt};
+ghost use Rattle.verdicts.specs.PlanFits.{CaseFits, AllSlotted};
 
 use crate::case::{Case, slot_of};
 use deciding::RunStep;
@@ -42,11 +42,11 @@ impl Case<'_> {
     // Makes one step in the work table, and counts the failing slots anew.
     fn make(&self, step: RunStep, adds: bool, work: &mut [u64], fails: usize) -> usize
         requires room { tracked_users ≤ length work.old }
-        requires seat { T (seated (slots_of self.now.plan.now) step.user.number) }
-        requires ready { ReadyCase self.now }
+        requires slotted { T (has_slot (slots_of self.now.plan.now) step.user.number) }
+        requires plan_fits { CaseFits self.now }
         requires before { fails ≡ failing_count self.now.plan.now.masks.seniors self.now.plan.now.masks.givers (inquired self.now.asked.now) (slots_of self.now.plan.now) work.old }
         ensures count { result ≡ failing_count self.now.plan.now.masks.seniors self.now.plan.now.masks.givers (inquired self.now.asked.now) (slots_of self.now.plan.now) work.new }
-        ensures says { (t : State) → Says (slots_of self.now.plan.now) work.old t → Says (slots_of self.now.plan.now) work.new (after (change_of adds step) t) }
+        ensures says { (t : State) → WordsSay (slots_of self.now.plan.now) work.old t → WordsSay (slots_of self.now.plan.now) work.new (after (change_of adds step) t) }
         ensures room { length work.new ≡ length work.old }
     {
         let slot = slot_of(self.slots(), step.user);
@@ -67,10 +67,10 @@ impl Case<'_> {
         work: &mut [u64],
     ) -> Option<usize>
         requires room { tracked_users ≤ length work.old }
-        requires sitting { Sitting (slots_of self.now.plan.now) run.now }
-        requires ready { ReadyCase self.now }
-        requires start { Says (slots_of self.now.plan.now) work.old (state_of self.now.tables.now) }
-        ensures { FoundAt sought (policy_of self.now.tables.now) (state_of self.now.tables.now) (inquired self.now.asked.now) adds run.now result }
+        requires slotted { AllSlotted (slots_of self.now.plan.now) run.now }
+        requires plan_fits { CaseFits self.now }
+        requires start { WordsSay (slots_of self.now.plan.now) work.old (state_of self.now.board.now.tables) }
+        ensures { FoundAt sought (policy_of self.now.board.now.tables) (state_of self.now.board.now.tables) (inquired self.now.asked.now) adds run.now result }
     {
         let mut fails = self.failing(work);
         for (made, step) in run.iter().enumerate() {

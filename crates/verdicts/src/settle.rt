@@ -1,13 +1,12 @@
 // Deciding a question.
 ghost use Rattle.std.specs.Prelude.{◌≡◌, ℕ, ◌≤◌, length, slice_index};
 ghost use Rattle.meaning.specs.Measures.{tracked_users, list_places};
-ghost use Rattle.bounded.specs.Entries.{entries};
 ghost use Rattle.tables.specs.View.{policy_of, state_of};
 ghost use Rattle.questions.specs.Inquired.{inquired};
-ghost use Rattle.deciding.specs.Delegates.{AllWhole};
-ghost use Rattle.verdicts.specs.Ready.{ReadyCase};
+ghost use Rattle.verdicts.specs.PlanFits.{CaseFits};
 ghost use Rattle.verdicts.specs.Candidates.{adds_to};
-ghost use Rattle.verdicts.specs.Verdict.{sought_by, Decided, Settled};
+ghost use Rattle.verdicts.specs.Verdict.{Decided, Settled};
+ghost use Rattle.meaning.specs.Witnesses.{sought_by};
 
 use crate::case::Case;
 use crate::runners::fill;
@@ -36,19 +35,18 @@ fn adds_to(place: Place) -> bool
     ensures { result ≡ adds_to place }
 {
     match place {
-        Place::Floor => false,
-        Place::Top => true,
+        Place::LeastState => false,
+        Place::GreatestState => true,
     }
 }
 
 impl Case<'_> {
     // Decides the question with tables that are long enough. The lengths are an answer of `decide` and are tested there alone; a type that holds them would wrap the slices once for each part, and the parts would say no less.
     fn decide_in(&self, list: &mut [RunStep], work: &mut [u64]) -> Verdict
-        requires ready { ReadyCase self.now }
-        requires whole { AllWhole (entries self.now.tables.now.assigns) }
+        requires plan_fits { CaseFits self.now }
         requires places { list_places ≤ length list.old }
         requires room { tracked_users ≤ length work.old }
-        ensures { Decided self.now.asked.now.kind (policy_of self.now.tables.now) (state_of self.now.tables.now) (inquired self.now.asked.now) list.old result list.new }
+        ensures { Decided self.now.asked.now.kind (policy_of self.now.board.now.tables) (state_of self.now.board.now.tables) (inquired self.now.asked.now) list.old result list.new }
     {
         let place = decided_at(self.asked.kind, self.asked.fixed_side());
         let adds = adds_to(place);
@@ -73,7 +71,8 @@ impl Case<'_> {
     }
 }
 
-// Answers a question about what can become of the board, and lists a run that shows the answer where one does.
+/// Answers a question about what can become of the board, and lists a run that shows the answer where one does. The places of the list past the run stay as they were.
+/// Wants 133 words and 8,512 places, or says which are too few and leaves the list as it was. Every word is 0 at the end.
 pub fn decide(
     board: &Valid,
     asked: &Inquiry,
@@ -91,9 +90,9 @@ pub fn decide(
         return Err(TooShort::Places);
     }
     let case = Case {
-        tables: &board.tables,
+        board,
         asked,
-        plan: &plan_of(&board.tables, &asked.larger, &asked.smaller),
+        plan: &plan_of(board, asked),
     };
     Ok(case.decide_in(list, guard.words))
 }

@@ -1,12 +1,7 @@
-use Rattle.std.proofs.Common.{sym, ◌∙◌, subst}
-use Rattle.meaning.specs.Lists.{Nth}
-use Rattle.soundness.proofs.Stable.{sound}
+use Rattle.std.proofs.Common.{sym, ◌∙◌}
 use Rattle.deciding.specs.Masked.{down_of}
-use Rattle.live.proofs.Permitting.{whole_entry, adds_told, trusted_told}
+use Rattle.live.proofs.Permitting.{adds_told, trusted_told}
 use Rattle.live.proofs.rules.may_add.Goals as goal
-
-pub some_adds-requires : goal.some_adds-requires
-some_adds-requires c k e n = whole_entry e.needs ((sound c.args.valid.now).conditions k e (subst (λ es. Nth k e es) c.entries.ensures.all n))
 
 pub returns : goal.returns
 returns c =
@@ -15,7 +10,7 @@ returns c =
     adds_told c.args.valid.now.tables c.args.actor.number c.args.user.number c.args.role.number (down_of c.masks_of-masks.result.seniors) c.masks_of-masks.ensures.senior
     x.result x.ensures.is x.ensures.inside y.ensures.inside
     y.result y.ensures.is
-    c.some_adds.result c.entries.result.now c.entries.ensures.all (sym c.is_trusted.ensures.is ∙ c.if-is_trusted.false) c.some_adds.ensures
+    c.some_adds.result (sym c.is_trusted.ensures.is ∙ c.if-is_trusted.false) c.some_adds.ensures
 
 pub returns-then-is_trusted : goal.returns-then-is_trusted
 returns-then-is_trusted c = trusted_told c.args.valid.now.tables c.args.actor.number c.args.user.number c.args.role.number (sym c.is_trusted.ensures.is ∙ c.if-is_trusted.true)

@@ -1,12 +1,13 @@
 use Rattle.std.proofs.Common.{◌≤◌, ◌+◌, Decides, ◌∙◌, sym, inl, inr, ⊎_elim, arith}
 use Rattle.std.proofs.lemmas.Bool.{both_ways}
+use Rattle.meaning.specs.Measures.{question_operands}
 use Rattle.meaning.specs.Sets.{Static, SemiStatic}
-use Rattle.tables.specs.View.{set_of, question_of}
+use Rattle.tables.specs.View.{set_of, stored_question}
 use Rattle.questions.proofs.Making.{asked_told, few_told}
 use Rattle.questions.proofs.inquiry.Inquiry.of_sets.Goals as goal
 use Rattle.questions.proofs.inquiry.Inquiry.of_sets.Goals.{After-named-2, then-is_static, else-is_static, else-semi_static-via-then-semi_static+else-few, else-semi_static-via-else-semi_static}
 
-semi : (c : After-named-2) → Decides c.if-is_static.semi_static (SemiStatic (question_of c.args.larger.nodes c.args.smaller.nodes))
+semi : (c : After-named-2) → Decides c.if-is_static.semi_static (SemiStatic (stored_question c.args.larger.nodes c.args.smaller.nodes))
 semi c = elim c.if-is_static.branch [
   | then-is_static w ↦ ((λ _. inl (c.is_static.ensures.0 w.if-is_static.true)), λ _. w.semi_static-is ∙ w.if-is_static.true)
   | else-is_static w ↦ (
@@ -24,7 +25,7 @@ invariant_of-result c = record {
 pub returns-else-semi_static : goal.returns-else-semi_static
 returns-else-semi_static c k = elim c.else-semi_static.branch [
   | else-semi_static-via-then-semi_static+else-few w ↦
-      let few : c.named.result + c.named-2.result ≤ 32 = few_told c.args.larger.nodes c.args.smaller.nodes c.args.larger.whole c.args.smaller.whole c.named.result c.named-2.result c.named.ensures.many c.named-2.ensures.many k in
+      let few : c.named.result + c.named-2.result ≤ question_operands = few_told c.args.larger.nodes c.args.smaller.nodes c.args.larger.whole c.args.smaller.whole c.named.result c.named-2.result c.named.ensures.many c.named-2.ensures.many k in
       let over = w.if-few.false in absurd (omega arith)
   | else-semi_static-via-else-semi_static w ↦ both_ways c.if-is_static.semi_static w.if-semi_static.false ((semi (goal.at.returns-else-semi_static c).After-named-2).1 k.is_semi_static)
 ]

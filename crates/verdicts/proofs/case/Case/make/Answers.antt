@@ -5,17 +5,17 @@ use Rattle.rbac.specs.Roles.{roles_of}
 use Rattle.rbac.proofs.Masks.{of}
 use Rattle.bounded.proofs.Listing.{few}
 use Rattle.questions.specs.Inquired.{inquired}
-use Rattle.deciding.specs.Slots.{slots_of, slot_at, user_at}
-use Rattle.planning.proofs.Seating.{seated_at}
-use Rattle.verdicts.specs.Looking.{passed, fails, failing, Says, change_of}
+use Rattle.deciding.specs.Slots.{slots_of, slot_at, slot_user}
+use Rattle.planning.proofs.Slotting.{slotted_at}
+use Rattle.verdicts.specs.Looking.{passed, fails, failing, WordsSay, change_of}
 use Rattle.verdicts.proofs.Truth.{count_few}
 use Rattle.verdicts.proofs.Turning.{says_next, fails_next, count_some}
 use Rattle.verdicts.proofs.case.Case.make.Goals as goal
 
 pub slot_of-slot-requires : goal.slot_of-slot-requires
 slot_of-slot-requires c =
-    subst⁻¹ (λ xs. (i : ℕ) × (i < length xs) × (user_at xs i ≡ c.args.step.user.number)) c.slots.ensures
-    (seated_at (slots_of c.args.self.now.plan.now) c.args.step.user.number c.requires.seat)
+    subst⁻¹ (λ xs. (i : ℕ) × (i < length xs) × (slot_user xs i ≡ c.args.step.user.number)) c.slots.ensures
+    (slotted_at (slots_of c.args.self.now.plan.now) c.args.step.user.number c.requires.slotted)
 
 pub recount-requires : goal.recount-requires
 recount-requires c =
@@ -24,7 +24,7 @@ recount-requires c =
     let q = inquired c.args.self.now.asked.now in
     let j = c.slot_of-slot.result in
     let below : j < length slots = subst (λ xs. j < length xs) c.slots.ensures c.slot_of-slot.ensures.below in
-    let at : user_at slots j ≡ c.args.step.user.number = subst (λ xs. user_at xs j ≡ c.args.step.user.number) c.slots.ensures c.slot_of-slot.ensures.is in
+    let at : slot_user slots j ≡ c.args.step.user.number = subst (λ xs. slot_user xs j ≡ c.args.step.user.number) c.slots.ensures c.slot_of-slot.ensures.is in
     let who : (slot_at slots j).user ≡ c.args.step.user = ap (λ (n : ℕ). record { number = n }) at in
     let f = fails x.masks.seniors x.masks.givers q slots c.args.work.now in
     let many = count_few f (length slots) in
@@ -48,7 +48,7 @@ returns c =
     let next = c.turn-next.result in
     let room : length slots ≤ length ws = omega (arith, c.requires.room, few x.slots) in
     let below : j < length slots = subst (λ xs. j < length xs) c.slots.ensures c.slot_of-slot.ensures.below in
-    let at : user_at slots j ≡ c.args.step.user.number = subst (λ xs. user_at xs j ≡ c.args.step.user.number) c.slots.ensures c.slot_of-slot.ensures.is in
+    let at : slot_user slots j ≡ c.args.step.user.number = subst (λ xs. slot_user xs j ≡ c.args.step.user.number) c.slots.ensures c.slot_of-slot.ensures.is in
     let who : (slot_at slots j).user ≡ c.args.step.user = ap (λ (n : ℕ). record { number = n }) at in
     let as_was = c.passes-was.ensures ∙ ap (λ u. passed x.masks.seniors x.masks.givers q u (roles_of roles)) (sym who) in
     let as_is = c.passes-is.ensures ∙ ap (λ u. passed x.masks.seniors x.masks.givers q u (roles_of next)) (sym who) in
@@ -56,7 +56,7 @@ returns c =
       count = fails_next slots ws c.args.adds c.args.step j roles next below room at c.from_word-roles.ensures c.turn-next.ensures
           x.masks.seniors x.masks.givers q c.args.fails c.recount.result c.passes-was.result c.passes-is.result c.requires.before as_was as_is c.recount.ensures
           ∙ ap (λ w. failing x.masks.seniors x.masks.givers q slots (set ws j w)) (sym c.word.ensures);
-      says = λ t y. subst (λ w. Says slots (set ws j w) (after (change_of c.args.adds c.args.step) t)) (sym c.word.ensures)
-          (says_next slots ws c.args.adds c.args.step j roles next below room at c.from_word-roles.ensures c.turn-next.ensures c.requires.ready.planned.seats.distinct c.requires.seat t y);
+      says = λ t y. subst (λ w. WordsSay slots (set ws j w) (after (change_of c.args.adds c.args.step) t)) (sym c.word.ensures)
+          (says_next slots ws c.args.adds c.args.step j roles next below room at c.from_word-roles.ensures c.turn-next.ensures c.requires.plan_fits.planned.present.distinct c.requires.slotted t y);
       room = length-set ws j c.word.result;
     }

@@ -1,7 +1,0 @@
-use Rattle.std.proofs.Common.{◌≡◌, ℕ, ◌<◌, length, get_or}
-use Rattle.rbac.specs.Roles.{roles_of}
-use Rattle.hierarchy.specs.Edges.{no_roles}
-use Rattle.planning.proofs.ranks.seniors.Given as goal
-
-abbrev pub invariant-loop-r : goal.invariant-loop-r
-invariant-loop-r l = (length l.mask-items ≡ 64) × ((r : ℕ) → r < l.r → (k : ℕ) → roles_of (get_or l.mask-items r no_roles) k ≡ roles_of (get_or l.below k no_roles) r)
