@@ -2,11 +2,11 @@
 use Rattle.std.proofs.Common.{◌≡◌, ℕ, zero, suc, ◌+◌, ◌*◌, ◌<◌, ◌≤◌, Bool, true, false, cond, not, T, List, [], ◌∷◌, ◌++◌, length, decimal, refl, ap, arith, length-append}
 use mathlib.Core.Path.{subst⁻¹}
 use Rattle.std.proofs.Math.Nat.{mul-add}
+use Rattle.meaning.specs.Measures as measures
 use Rattle.meaning.specs.Membership.{State, Edges, same, above}
 use Rattle.meaning.specs.Lists.{Nth, first, later, listed}
 use Rattle.meaning.specs.Rows.{Holder}
 use Rattle.grammar.specs.Text.{is_nil}
-use Rattle.lines.specs.Entries.{entries}
 use Rattle.pen.specs.Ascending.{ascending}
 use Rattle.saving.proofs.Ascends.{asc_below}
 use Rattle.book.specs.Book.{Book}
@@ -14,6 +14,7 @@ use Rattle.book.specs.Orderly.{Orderly, NoCircle}
 use Rattle.boardtext.specs.Canonical.{ended, each, row_line, row_lines}
 use Rattle.boardtext.proofs.Listing.{passes, not_twice, apart, head, all_holders}
 use Rattle.boardtext.proofs.Sized.{two_digits, short_entries, full_row}
+use Rattle.lines.specs.Entries.{entry_bytes}
 
 -- ---- lines
 
@@ -26,13 +27,13 @@ line_size word n es =
 
 -- some role stands beside the number
 abbrev pub has : (ℕ → ℕ → Bool) → ℕ → Bool
-has f n = not (is_nil (ascending (f n) 64))
+has f n = not (is_nil (ascending (f n) measures.roles))
 
 module _ (word : List ℕ) (f : ℕ → ℕ → Bool) where
   module _ (limit : ℕ) (digits : (n : ℕ) → n < limit → length word + length (decimal n) ≤ 9) where
-    one_line : (n : ℕ) (ns : List ℕ) → n < limit → length (entries 114 ns) ≤ 246 → length (row_line word n ns) ≤ 256 * length (cond (not (is_nil ns)) (n ∷ []) [])
+    one_line : (n : ℕ) (ns : List ℕ) → n < limit → length (entry_bytes 114 ns) ≤ 246 → length (row_line word n ns) ≤ 256 * length (cond (not (is_nil ns)) (n ∷ []) [])
     one_line n [] l h = omega arith
-    one_line n (r ∷ rs) l h = let a = line_size word n (entries 114 (r ∷ rs)) in let d = digits n l in omega (arith, a, d, h)
+    one_line n (r ∷ rs) l h = let a = line_size word n (entry_bytes 114 (r ∷ rs)) in let d = digits n l in omega (arith, a, d, h)
 
     -- each line is so long at most
     pub lines_size : (n : ℕ) → n ≤ limit → length (row_lines word f n) ≤ 256 * length (ascending (has f) n)
@@ -40,8 +41,8 @@ module _ (word : List ℕ) (f : ℕ → ℕ → Bool) where
     lines_size zero l = omega arith
     lines_size (suc n) l =
         let h = lines_size n (omega arith) in
-        let one = one_line n (ascending (f n) 64) (omega arith) (full_row 114 (f n)) in
-        let a : length (row_lines word f n ++ row_line word n (ascending (f n) 64)) ≡ length (row_lines word f n) + length (row_line word n (ascending (f n) 64)) = length-append (row_lines word f n) (row_line word n (ascending (f n) 64)) in
+        let one = one_line n (ascending (f n) measures.roles) (omega arith) (full_row 114 (f n)) in
+        let a : length (row_lines word f n ++ row_line word n (ascending (f n) measures.roles)) ≡ length (row_lines word f n) + length (row_line word n (ascending (f n) measures.roles)) = length-append (row_lines word f n) (row_line word n (ascending (f n) measures.roles)) in
         let b : length (ascending (has f) n ++ cond (has f n) (n ∷ []) []) ≡ length (ascending (has f) n) + length (cond (has f n) (n ∷ []) []) = length-append (ascending (has f) n) (cond (has f n) (n ∷ []) []) in
         omega (arith, h, one, a, b)
 
@@ -55,14 +56,14 @@ few_pass f (suc n) = more (f n) (few_pass f n)
     more true h = let a : length (ascending f n ++ n ∷ []) ≡ length (ascending f n) + 1 = length-append (ascending f n) (n ∷ []) in omega arith
     more false h = let a : length (ascending f n ++ []) ≡ length (ascending f n) + 0 = length-append (ascending f n) [] in omega arith
 
-some_role : (s : State) (u : ℕ) (ns : List ℕ) → ascending (s u) 64 ≡ ns → T (not (is_nil ns)) → Holder s u
+some_role : (s : State) (u : ℕ) (ns : List ℕ) → ascending (s u) measures.roles ≡ ns → T (not (is_nil ns)) → Holder s u
 some_role s u [] e t = absurd t
-some_role s u (r ∷ rs) e t = (r, (passes (s u) 64 r (subst⁻¹ (λ (ns : List ℕ). T (listed ns r)) e (head r rs))).1)
+some_role s u (r ∷ rs) e t = (r, (passes (s u) measures.roles r (subst⁻¹ (λ (ns : List ℕ). T (listed ns r)) e (head r rs))).1)
 
-pub few_users : (b : Book) → Orderly b → length (ascending (has b.state) 65536) ≤ 100
+pub few_users : (b : Book) → Orderly b → length (ascending (has b.state) measures.users) ≤ measures.rows
 few_users b o =
-    o.few_rows (ascending (has b.state) 65536) (apart (ascending (has b.state) 65536) (not_twice (has b.state) 65536))
-    (all_holders b.state (ascending (has b.state) 65536) (λ u t. some_role b.state u (ascending (b.state u) 64) refl (passes (has b.state) 65536 u t).1))
+    o.few_rows (ascending (has b.state) measures.users) (apart (ascending (has b.state) measures.users) (not_twice (has b.state) measures.users))
+    (all_holders b.state (ascending (has b.state) measures.users) (λ u t. some_role b.state u (ascending (b.state u) measures.roles) refl (passes (has b.state) measures.users u t).1))
 
 -- ---- edges
 
@@ -84,7 +85,7 @@ none_below : (f : ℕ → Bool) → ascending f 0 ≡ []
 unfolding ascending
 none_below f = refl
 
-sixty : triangle 64 ≡ 2016
+sixty : triangle measures.roles ≡ 2016
 unfolding triangle
 sixty = refl
 
@@ -134,26 +135,26 @@ module _ (edge : Edges) where
         no_loop true h = absurd (h tt)
         no_loop false h = refl
 
-    few_edges : total edge 64 64 ≤ 2016
-    few_edges = let h = half 64 in omega (arith, h, sixty)
+    few_edges : total edge measures.roles measures.roles ≤ 2016
+    few_edges = let h = half measures.roles in omega (arith, h, sixty)
 
     module _ (word : List ℕ) (short : length word ≤ 4) where
-      edge_line : (n : ℕ) (ns : List ℕ) → n < 64 → length (entries 114 ns) ≤ 4 * length ns → length (row_line word n ns) ≤ 7 + 4 * length ns
+      edge_line : (n : ℕ) (ns : List ℕ) → n < measures.roles → length (entry_bytes 114 ns) ≤ 4 * length ns → length (row_line word n ns) ≤ 7 + 4 * length ns
       edge_line n [] l h = omega arith
-      edge_line n (r ∷ rs) l h = let a = line_size word n (entries 114 (r ∷ rs)) in let d = two_digits n (omega arith) in omega (arith, a, d, h, short)
+      edge_line n (r ∷ rs) l h = let a = line_size word n (entry_bytes 114 (r ∷ rs)) in let d = two_digits n (omega arith) in omega (arith, a, d, h, short)
 
-      edge_lines : (n : ℕ) → n ≤ 64 → length (row_lines word edge n) ≤ 7 * n + 4 * total edge n 64
+      edge_lines : (n : ℕ) → n ≤ measures.roles → length (row_lines word edge n) ≤ 7 * n + 4 * total edge n measures.roles
       unfolding row_lines total
       edge_lines zero l = omega arith
       edge_lines (suc n) l =
           let h = edge_lines n (omega arith) in
-          let e = short_entries 114 (ascending (edge n) 64) (asc_below (edge n) 100 64 (omega arith)) in
-          let one = edge_line n (ascending (edge n) 64) (omega arith) e in
-          let a : length (row_lines word edge n ++ row_line word n (ascending (edge n) 64)) ≡ length (row_lines word edge n) + length (row_line word n (ascending (edge n) 64)) = length-append (row_lines word edge n) (row_line word n (ascending (edge n) 64)) in
+          let e = short_entries 114 (ascending (edge n) measures.roles) (asc_below (edge n) 100 measures.roles (omega arith)) in
+          let one = edge_line n (ascending (edge n) measures.roles) (omega arith) e in
+          let a : length (row_lines word edge n ++ row_line word n (ascending (edge n) measures.roles)) ≡ length (row_lines word edge n) + length (row_line word n (ascending (edge n) measures.roles)) = length-append (row_lines word edge n) (row_line word n (ascending (edge n) measures.roles)) in
           omega (arith, h, one, a)
 
-      pub edges_size : length (row_lines word edge 64) ≤ 8512
-      edges_size = let h = edge_lines 64 (omega arith) in let f = few_edges in omega (arith, h, f)
+      pub edges_size : length (row_lines word edge measures.roles) ≤ 8512
+      edges_size = let h = edge_lines measures.roles (omega arith) in let f = few_edges in omega (arith, h, f)
 
 -- ---- a line for each of a list
 

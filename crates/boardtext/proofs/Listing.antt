@@ -13,7 +13,7 @@ use Rattle.lines.specs.Entries.{repeats}
 use Rattle.lines.proofs.Naming.{repeats_more}
 use Rattle.pen.specs.Ascending.{ascending}
 use Rattle.saving.proofs.Ascends.{asc_named}
-use Rattle.book.specs.Grounds.{Some, AllTrusted}
+use Rattle.book.specs.Grounds.{AllTrusted, AnyListed}
 
 -- ---- the numbers
 
@@ -56,7 +56,7 @@ apart [] e = tt
 apart (n ∷ ns) e = let p = neither (listed ns n) (repeats ns) e in (as_denied (listed ns n) p.0, apart ns p.1)
 
 -- where something is so of some number, that number stands in the list
-pub some_of : (P : ℕ → Type 0) (ns : List ℕ) → Some P ns → (n : ℕ) × T (listed ns n) × P n
+pub some_of : (P : ℕ → Type 0) (ns : List ℕ) → AnyListed P ns → (n : ℕ) × T (listed ns n) × P n
 some_of P [] h = absurd h
 some_of P (n ∷ ns) (inl h) = (n, or_left (eqb n n) (listed ns n) (as_test (eqb n n) (eq-eqb n n refl)), h)
 some_of P (n ∷ ns) (inr h) = let (m, t, p) = some_of P ns h in (m, or_right (eqb m n) (listed ns m) t, p)

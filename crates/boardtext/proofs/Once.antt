@@ -9,9 +9,9 @@ use Rattle.meaning.specs.declared.terms.Regime.TheVariants.{Aatu, Aar}
 use Rattle.lines.specs.Lines.{lines, Fine}
 use Rattle.texts.specs.Board.{goes_on, unbroken, Cut, mark_line, regime_line}
 use Rattle.book.specs.Book.{Book, Entry, blank, put}
-use Rattle.book.specs.Says.{says}
 use Rattle.book.specs.Calls.{Puts, Feeds, end, line, Begins, Reads}
 use Rattle.boardtext.proofs.Alone.{lone_line}
+use Rattle.book.specs.Says.{line_entry}
 
 -- ---- one line
 
@@ -46,7 +46,7 @@ cut_once (x ∷ l) (y ∷ m) r q a b e =
 pub puts_once : (b : Book) (s : List ℕ) (m n : Book) (r q : List ℕ) → Puts b s m r → Puts b s n q → (m ≡ n) × (r ≡ q)
 puts_once b s m n r q x y =
     let c = cut_once x.text y.text r q x.cut.one y.cut.one (sym x.cut.text ∙ y.cut.text) in
-    let same : says y.sentence ≡ says x.sentence = (lone_line x.sentence (fine_of b s m r x)).names y.sentence (sym x.said.0 ∙ c.0 ∙ y.said.0, y.said.1) in
+    let same : line_entry y.sentence ≡ line_entry x.sentence = (lone_line x.sentence (fine_of b s m r x)).names y.sentence (sym x.said.0 ∙ c.0 ∙ y.said.0, y.said.1) in
     (x.made ∙ ap (λ (e : Entry). put e b) (sym same) ∙ sym y.made, c.1)
 
 pub nothing_cut : (l rest : List ℕ) → Cut [] l rest → ⊥

@@ -9,11 +9,12 @@ use Rattle.texts.specs.Board.{mark_line, regime_line}
 use Rattle.book.specs.Book.{Book, blank}
 use Rattle.book.specs.Orderly.{Orderly}
 use Rattle.book.specs.Calls.{Feeds}
-use Rattle.boardtext.specs.Canonical.{regime_text, board_lines}
+use Rattle.boardtext.specs.Canonical.{regime_text, board_lines, canonical_board}
 use Rattle.boardtext.proofs.Putting.{then}
 use Rattle.boardtext.proofs.Related.{all_assigned, all_given, all_ordered}
 use Rattle.boardtext.proofs.Trusted.{all_trusting}
 use Rattle.boardtext.specs.Reopening.{ReadsBack, Reopens}
+use Rattle.boardtext.proofs.Stopping.{opens}
 use Rattle.boardtext.proofs.Fitting.{fits}
 use Rattle.boardtext.proofs.Ruled.{all_assigning, all_revoking, all_requiring}
 
@@ -32,4 +33,4 @@ reads_back b o =
     )
 
 pub reopens : Reopens
-reopens before b list work o none = (reads_back b o, none)
+reopens before b list work o none = opens (canonical_board b) list work before b (reads_back b o) none

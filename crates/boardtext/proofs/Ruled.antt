@@ -2,6 +2,7 @@
 use Rattle.std.proofs.Common.{◌≡◌, ℕ, suc, ◌+◌, ◌≤◌, Bool, T, List, [], ◌∷◌, ◌++◌, length, sym, refl, ap, ◌∙◌, subst, ⊎_elim, append_assoc, arith, length-append}
 use Rattle.std.proofs.lemmas.List.{append-nil}
 use mathlib.Core.Path.{subst⁻¹}
+use Rattle.meaning.specs.Measures as measures
 use Rattle.meaning.specs.Rules.{AssignRule, RevokeRule}
 use Rattle.meaning.specs.Lists.{Nth, first, later}
 use Rattle.meaning.specs.Requirements.{Requirement}
@@ -10,7 +11,7 @@ use Rattle.texts.specs.declared.faults.Way.TheVariants.{Add}
 use Rattle.pen.specs.Ascending.{ascending}
 use Rattle.book.specs.Book.{Book, Entry, assigns, revokes, requires, put}
 use Rattle.book.specs.Orderly.{Orderly, Once}
-use Rattle.book.specs.Refusals.{None, entered}
+use Rattle.book.specs.Refusals.{entered, NoneApplies}
 use Rattle.book.specs.Calls.{Feeds, end}
 use Rattle.book.proofs.Ladder.{pass}
 use Rattle.book.proofs.Ladder.{end as nothing_left}
@@ -44,7 +45,7 @@ room all done x rest n few e full = let l : length (done ++ x ∷ rest) ≡ leng
 module _ {A : Type 0} (all : List A) (text : A → List ℕ) (of : A → Entry) (at : List A → Book)
     (written : (k : ℕ) (x : A) → Nth k x all → Writes (of x) (text x))
     (puts : (xs : List A) (x : A) → put (of x) (at xs) ≡ at (xs ++ x ∷ []))
-    (free : (done : List A) (x : A) (rest : List A) → all ≡ done ++ x ∷ rest → None (entered Add (at done) (of x))) where
+    (free : (done : List A) (x : A) (rest : List A) → all ≡ done ++ x ∷ rest → NoneApplies (entered Add (at done) (of x))) where
   from : (done rest : List A) → all ≡ done ++ rest → Feeds (at done) (each text rest) (at all)
   from done [] e = subst (λ (xs : List A). Feeds (at done) [] (at xs)) (sym (e ∙ append-nil done)) end
   from done (x ∷ rest) e =
@@ -57,8 +58,8 @@ module _ {A : Type 0} (all : List A) (text : A → List ℕ) (of : A → Entry) 
   all_put = from [] all refl
 
 module _ (b : Book) (o : Orderly b) where
-  once : (f : ℕ → Bool) → T (repeats (ascending f 64)) → ⊥
-  once f t = subst (λ (c : Bool). T c) (not_twice f 64) t
+  once : (f : ℕ → Bool) → T (repeats (ascending f measures.roles)) → ⊥
+  once f t = subst (λ (c : Bool). T c) (not_twice f measures.roles) t
 
   -- ---- assign rules
 
@@ -66,13 +67,13 @@ module _ (b : Book) (o : Orderly b) where
   assigning rules = made b.policy.regime b.state b.policy.gives b.policy.edge b.policy.trusted rules [] []
 
   pub all_assigning : Feeds (trusting b o b.policy.trusted) (each assign_text b.policy.assigns) (assigning b.policy.assigns)
-  all_assigning = all_put b.policy.assigns assign_text (λ rule. assigns rule (ascending rule.targets 64)) assigning
+  all_assigning = all_put b.policy.assigns assign_text (λ rule. assigns rule (ascending rule.targets measures.roles)) assigning
       (λ k rule n. assign_written rule (o.assigns_said k rule n))
       (λ rules rule. refl)
       (λ done rule rest e.
       pass (λ h. h)
       (pass (λ h. ⊎_elim (λ t. new b.policy.assigns done rule rest o.assigns_once e t) (λ t. once rule.targets t) h)
-      (pass (λ h. room b.policy.assigns done rule rest 32 o.few_assigns e h) (pass (λ h. h) nothing_left))))
+      (pass (λ h. room b.policy.assigns done rule rest measures.assign_rules o.few_assigns e h) (pass (λ h. h) nothing_left))))
 
   -- ---- revoke rules
 
@@ -80,13 +81,13 @@ module _ (b : Book) (o : Orderly b) where
   revoking rules = made b.policy.regime b.state b.policy.gives b.policy.edge b.policy.trusted b.policy.assigns rules []
 
   pub all_revoking : Feeds (assigning b.policy.assigns) (each revoke_text b.policy.revokes) (revoking b.policy.revokes)
-  all_revoking = all_put b.policy.revokes revoke_text (λ rule. revokes rule (ascending rule.targets 64)) revoking
+  all_revoking = all_put b.policy.revokes revoke_text (λ rule. revokes rule (ascending rule.targets measures.roles)) revoking
       (λ k rule n. revoke_written rule (o.revokes_said k rule n))
       (λ rules rule. refl)
       (λ done rule rest e.
       pass (λ h. no_revoke b o h (suc (length done)) rule (subst⁻¹ (λ (xs : List RevokeRule). Nth (suc (length done)) rule xs) e (nth_here done rule rest)))
       (pass (λ h. ⊎_elim (λ t. new b.policy.revokes done rule rest o.revokes_once e t) (λ t. once rule.targets t) h)
-      (pass (λ h. room b.policy.revokes done rule rest 16 o.few_revokes e h) (pass (λ h. h) nothing_left))))
+      (pass (λ h. room b.policy.revokes done rule rest measures.revoke_rules o.few_revokes e h) (pass (λ h. h) nothing_left))))
 
   -- ---- requirements
 
@@ -100,4 +101,4 @@ module _ (b : Book) (o : Orderly b) where
       (λ done d rest e.
       pass (λ h. h)
       (pass (λ h. ⊎_elim (λ t. new b.requirements done d rest o.requirements_once e t) (λ t. t) h)
-      (pass (λ h. room b.requirements done d rest 16 o.few_requirements e h) (pass (λ h. h) nothing_left))))
+      (pass (λ h. room b.requirements done d rest measures.requirements o.few_requirements e h) (pass (λ h. h) nothing_left))))

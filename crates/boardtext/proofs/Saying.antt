@@ -6,20 +6,21 @@ use Rattle.meaning.specs.Rules.{AssignRule, RevokeRule}
 use Rattle.meaning.specs.Sets.{UserSet, members, holders, only, nobody, union, intersection, as_condition}
 use Rattle.meaning.specs.Requirements.{Requirement, always, never}
 use Rattle.grammar.specs.Phrase.{render, roles_alone}
-use Rattle.lines.specs.Bodies.{Row, Assigning, Sides, sides, question_of}
+use Rattle.lines.specs.Bodies.{Assigning, Sides, sides, question_of, RoleListing}
 use Rattle.lines.specs.Bodies as B
 use Rattle.lines.specs.Lines.{bodies, Fine}
 use Rattle.lines.specs.declared.keyword.Keyword.{Keyword}
 use Rattle.lines.specs.declared.keyword.Keyword.TheVariants.{Ua, Pa, Rh, Trust, Assign, Revoke, Always, Never, Possible, Necessary}
 use Rattle.pen.specs.Canon.{as_set}
 use Rattle.book.specs.Book.{assigns, revokes, requires}
-use Rattle.book.specs.Orderly.{Said, RuleSaid, RevokeSaid}
+use Rattle.book.specs.Orderly.{Said}
 use Rattle.book.specs.Says.{entry_of, assign_rule, revoke_rule}
-use Rattle.boardtext.specs.Canonical.{set_of, condition_text}
+use Rattle.boardtext.specs.Canonical.{condition_text, set_of_condition}
+use Rattle.book.proofs.Sayings.{RuleSaid, RevokeSaid}
 
 -- ---- conditions
 
-pub condition_set : (t : UserSet) → roles_alone t ≡ true → set_of (as_condition t) ≡ t
+pub condition_set : (t : UserSet) → roles_alone t ≡ true → set_of_condition (as_condition t) ≡ t
 condition_set (members r) h = refl
 condition_set (holders n) h = absurd (distinct h)
 condition_set (only u) h = absurd (distinct h)
@@ -63,7 +64,7 @@ rule_form rule (rs, s) = assign_form s.line.keyword s.line.body rule rs s.fine s
 -- ---- revoke rules
 
 pub record RevokeForm (rule : RevokeRule) : Type 0 where
-  pub form : Row
+  pub form : RoleListing
   pub proper : (bodies Revoke).proper form
   pub ranged : (bodies Revoke).ranged form ≡ true
   pub is : revoke_rule form ≡ rule

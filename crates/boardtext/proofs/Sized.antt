@@ -5,20 +5,22 @@ use Rattle.std.proofs.lemmas.Bool.{and_parts, cases_lt}
 use Rattle.std.proofs.lemmas.List.{append-nil}
 use Rattle.std.proofs.lemmas.Fmt.{length-decimal-le}
 use borrow.Author.Tests.{clash as distinct}
+use Rattle.grammar.specs.Text.{number_limit, most_digits}
+use Rattle.meaning.specs.Measures as measures
 use Rattle.meaning.specs.Sets.{UserSet, members, holders, only, nobody, union, intersection}
 use Rattle.grammar.specs.Phrase.{render, operands, in_range, roles_alone}
-use Rattle.lines.specs.Entries.{entries, all_below}
+use Rattle.lines.specs.Entries.{all_below, entry_bytes}
 use Rattle.pen.specs.Ascending.{ascending}
 use Rattle.pen.specs.Canon.{as_set, as_term, as_factor}
 
 -- ---- lists
 
-pub entries_join : (c : ℕ) (ns : List ℕ) (n : ℕ) → length (entries c (ns ++ n ∷ [])) ≡ length (entries c ns) + (2 + length (decimal n))
+pub entries_join : (c : ℕ) (ns : List ℕ) (n : ℕ) → length (entry_bytes c (ns ++ n ∷ [])) ≡ length (entry_bytes c ns) + (2 + length (decimal n))
 entries_join c [] n = let a : length (decimal n ++ []) ≡ length (decimal n) + 0 = length-append (decimal n) [] in omega arith
 entries_join c (m ∷ ns) n =
     let h = entries_join c ns n in
-    let a : length (decimal m ++ entries c (ns ++ n ∷ [])) ≡ length (decimal m) + length (entries c (ns ++ n ∷ [])) = length-append (decimal m) (entries c (ns ++ n ∷ [])) in
-    let b : length (decimal m ++ entries c ns) ≡ length (decimal m) + length (entries c ns) = length-append (decimal m) (entries c ns) in
+    let a : length (decimal m ++ entry_bytes c (ns ++ n ∷ [])) ≡ length (decimal m) + length (entry_bytes c (ns ++ n ∷ [])) = length-append (decimal m) (entry_bytes c (ns ++ n ∷ [])) in
+    let b : length (decimal m ++ entry_bytes c ns) ≡ length (decimal m) + length (entry_bytes c ns) = length-append (decimal m) (entry_bytes c ns) in
     omega arith
 
 one_digit : (n : ℕ) → n < 10 → length (decimal n) ≤ 1
@@ -27,27 +29,27 @@ one_digit n l = length-decimal-le 1 n (omega arith) (omega arith) (omega arith)
 pub two_digits : (n : ℕ) → n < 100 → length (decimal n) ≤ 2
 two_digits n l = length-decimal-le 2 n (omega arith) (omega arith) (omega arith)
 
-pub five_digits : (n : ℕ) → n < 100000 → length (decimal n) ≤ 5
-five_digits n l = length-decimal-le 5 n (omega arith) (omega arith) (omega arith)
+pub five_digits : (n : ℕ) → n < number_limit → length (decimal n) ≤ most_digits
+five_digits n l = length-decimal-le most_digits n (omega arith) (omega arith) (omega arith)
 
 -- entries of two digits, and of five
-pub short_entries : (c : ℕ) (ns : List ℕ) → all_below 100 ns ≡ true → length (entries c ns) ≤ 4 * length ns
+pub short_entries : (c : ℕ) (ns : List ℕ) → all_below 100 ns ≡ true → length (entry_bytes c ns) ≤ 4 * length ns
 short_entries c [] h = omega arith
 short_entries c (n ∷ ns) h =
     let p = and_parts (ltb n 100) (all_below 100 ns) h in
     let d = two_digits n (ltb-true n 100 p.0) in
     let r = short_entries c ns p.1 in
-    let a : length (decimal n ++ entries c ns) ≡ length (decimal n) + length (entries c ns) = length-append (decimal n) (entries c ns) in
+    let a : length (decimal n ++ entry_bytes c ns) ≡ length (decimal n) + length (entry_bytes c ns) = length-append (decimal n) (entry_bytes c ns) in
     omega arith
 
-pub long_entries : (c : ℕ) (ns : List ℕ) → all_below 65536 ns ≡ true → length (entries c ns) ≤ 7 * length ns
+pub long_entries : (c : ℕ) (ns : List ℕ) → all_below measures.users ns ≡ true → length (entry_bytes c ns) ≤ 7 * length ns
 long_entries c [] h = omega arith
 long_entries c (n ∷ ns) h =
-    let p = and_parts (ltb n 65536) (all_below 65536 ns) h in
-    let l = ltb-true n 65536 p.0 in
+    let p = and_parts (ltb n measures.users) (all_below measures.users ns) h in
+    let l = ltb-true n measures.users p.0 in
     let d = five_digits n (omega arith) in
     let r = long_entries c ns p.1 in
-    let a : length (decimal n ++ entries c ns) ≡ length (decimal n) + length (entries c ns) = length-append (decimal n) (entries c ns) in
+    let a : length (decimal n ++ entry_bytes c ns) ≡ length (decimal n) + length (entry_bytes c ns) = length-append (decimal n) (entry_bytes c ns) in
     omega arith
 
 -- the numbers below ten have one digit less
@@ -58,18 +60,18 @@ tens n l = ⊎_elim
     (cases_lt n 10)
 
 module _ (c : ℕ) (f : ℕ → Bool) where
-  one_more : (n : ℕ) (b : Bool) → n < 100 → length (entries c (ascending f n)) + min n 10 ≤ 4 * n → length (entries c (ascending f n ++ cond b (n ∷ []) [])) + min (suc n) 10 ≤ 4 * suc n
+  one_more : (n : ℕ) (b : Bool) → n < 100 → length (entry_bytes c (ascending f n)) + min n 10 ≤ 4 * n → length (entry_bytes c (ascending f n ++ cond b (n ∷ []) [])) + min (suc n) 10 ≤ 4 * suc n
   one_more n true l h = let d = tens n l in let e = entries_join c (ascending f n) n in omega arith
-  one_more n false l h = let e : length (entries c (ascending f n ++ [])) ≡ length (entries c (ascending f n)) = ap (λ ns. length (entries c ns)) (append-nil (ascending f n)) in omega arith
+  one_more n false l h = let e : length (entry_bytes c (ascending f n ++ [])) ≡ length (entry_bytes c (ascending f n)) = ap (λ ns. length (entry_bytes c ns)) (append-nil (ascending f n)) in omega arith
 
-  up_to : (n : ℕ) → n ≤ 100 → length (entries c (ascending f n)) + min n 10 ≤ 4 * n
+  up_to : (n : ℕ) → n ≤ 100 → length (entry_bytes c (ascending f n)) + min n 10 ≤ 4 * n
   unfolding ascending
   up_to zero l = omega arith
   up_to (suc n) l = one_more n (f n) (omega arith) (up_to n (omega arith))
 
   -- all roles there are: ten of one digit, the others of two
-  pub full_row : length (entries c (ascending f 64)) ≤ 246
-  full_row = let h = up_to 64 (omega arith) in omega arith
+  pub full_row : length (entry_bytes c (ascending f measures.roles)) ≤ 246
+  full_row = let h = up_to measures.roles (omega arith) in omega arith
 
 -- ---- sets
 
@@ -126,7 +128,7 @@ module _ (k : ℕ) where
   set_size t h = let a = factor_size t h in let b = set_least t in omega arith
 
 slim_roles : (t : UserSet) → in_range t ≡ true → roles_alone t ≡ true → Slim 6 t
-slim_roles (members n) h r = let l = ltb-true n 64 h in let d = two_digits n (omega arith) in omega arith
+slim_roles (members n) h r = let l = ltb-true n measures.roles h in let d = two_digits n (omega arith) in omega arith
 slim_roles (holders n) h r = absurd (distinct r)
 slim_roles (only n) h r = absurd (distinct r)
 slim_roles nobody h r = absurd (distinct r)
@@ -140,9 +142,9 @@ slim_roles (intersection a b) h r =
     (slim_roles a p.0 q.0, slim_roles b p.1 q.1)
 
 slim : (t : UserSet) → in_range t ≡ true → Slim 11 t
-slim (members n) h = let l = ltb-true n 64 h in let d = two_digits n (omega arith) in omega arith
-slim (holders n) h = let l = ltb-true n 32 h in let d = two_digits n (omega arith) in omega arith
-slim (only n) h = let l = ltb-true n 65536 h in let d = five_digits n (omega arith) in omega arith
+slim (members n) h = let l = ltb-true n measures.roles h in let d = two_digits n (omega arith) in omega arith
+slim (holders n) h = let l = ltb-true n measures.permissions h in let d = two_digits n (omega arith) in omega arith
+slim (only n) h = let l = ltb-true n measures.users h in let d = five_digits n (omega arith) in omega arith
 slim nobody h = omega arith
 slim (union a b) h = let p = and_parts (in_range a) (in_range b) h in (slim a p.0, slim b p.1)
 slim (intersection a b) h = let p = and_parts (in_range a) (in_range b) h in (slim a p.0, slim b p.1)

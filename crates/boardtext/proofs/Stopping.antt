@@ -4,12 +4,16 @@ use mathlib.Core.Path.{subst⁻¹}
 use borrow.Author.Tests.{clash}
 use Rattle.std.proofs.lemmas.Bool.{and_parts}
 use Rattle.std.proofs.lemmas.List.{append_cancel_left}
+use Rattle.meaning.specs.Ranks.{rank}
 use Rattle.meaning.specs.Terms.{regime_of}
 use Rattle.meaning.specs.declared.terms.Regime.{Regime}
-use Rattle.texts.specs.Board.{goes_on, unbroken, Cut, mark_line, regime_line, longest}
+use Rattle.texts.specs.Board.{goes_on, unbroken, Cut, mark_line, regime_line}
+use Rattle.texts.specs.Lengths.{longest_text}
 use Rattle.book.specs.Book.{Book, blank}
-use Rattle.book.specs.Refusals.{Row, Any, None, Least, whole, lent}
-use Rattle.book.specs.Calls.{LeastOf, LineRefuses, Puts, Faulty, Feeds, end, line, Stops, here, later, Begins, Reads, OpeningRefused, too_long, no_mark, no_regime, a_line, at_last}
+use Rattle.book.specs.Refusals.{Any, Least, whole, lent, NoneApplies, TableRow}
+use Rattle.book.specs.Calls.{LeastOf, LineRefuses, Puts, Feeds, end, line, Stops, here, later, Begins, Reads, OpeningRefused, too_long, no_mark, no_regime, a_line, at_last, FaultyLine}
+use Rattle.book.specs.Calls.{opening}
+use Rattle.book.specs.Outcomes.{done, Outcome}
 use Rattle.boardtext.proofs.Once.{cut_once, puts_once, nothing_cut, begins_once, reads_once}
 
 -- ---- one line
@@ -22,12 +26,12 @@ uncut : (s l rest : List ℕ) → unbroken s ≡ true → Cut s l rest → ⊥
 uncut s l rest e cut = broken l rest (subst (λ (t : List ℕ). unbroken t ≡ true) cut.text e)
 
 -- at the end of a text nothing is faulty
-not_at_end : (b : Book) (n : ℕ) → Faulty b [] n → ⊥
+not_at_end : (b : Book) (n : ℕ) → FaultyLine b [] n → ⊥
 not_at_end b n (inl (e, some, is)) = some refl
 not_at_end b n (inr (l, rest, cut, least)) = nothing_cut l rest cut
 
 -- a faulty line is not put in
-not_put : (b : Book) (s : List ℕ) (m : Book) (rest : List ℕ) (n : ℕ) → Faulty b s n → Puts b s m rest → ⊥
+not_put : (b : Book) (s : List ℕ) (m : Book) (rest : List ℕ) (n : ℕ) → FaultyLine b s n → Puts b s m rest → ⊥
 not_put b s m rest n (inl (e, some, is)) p = uncut s p.text rest e p.cut
 not_put b s m rest n (inr (l, r, cut, least)) p =
     let c = cut_once l p.text r rest cut.one p.cut.one (sym cut.text ∙ p.cut.text) in
@@ -47,17 +51,17 @@ never_both {z = z} (later {b = b} {s = s} {rest = r} m p h) (line {rest = q} j o
 
 pub least_once : (Refuses : ℕ → Type 0) (n m : ℕ) → LeastOf Refuses n → LeastOf Refuses m → n ≡ m
 least_once Refuses n m x y =
-    let a : n ≤ m = x.least m y.refuses in
-    let b : m ≤ n = y.least n x.refuses in
+    let a : rank n ≤ rank m = x.least m y.refuses in
+    let b : rank m ≤ rank n = y.least n x.refuses in
     omega (arith, a, b)
 
-pub row_once : (table : List Row) (n m : ℕ) → Least table n → Least table m → n ≡ m
+pub row_once : (table : List TableRow) (n m : ℕ) → Least table n → Least table m → n ≡ m
 row_once table n m x y =
-    let a : n ≤ m = x.least m y.applies in
-    let b : m ≤ n = y.least n x.applies in
+    let a : rank n ≤ rank m = x.least m y.applies in
+    let b : rank m ≤ rank n = y.least n x.applies in
     omega (arith, a, b)
 
-fault_once : (b : Book) (s : List ℕ) (n m : ℕ) → Faulty b s n → Faulty b s m → n ≡ m
+fault_once : (b : Book) (s : List ℕ) (n m : ℕ) → FaultyLine b s n → FaultyLine b s m → n ≡ m
 fault_once b s n m (inl (e, some, is)) (inl (f, other, same)) = is ∙ sym same
 fault_once b s n m (inl (e, some, is)) (inr (l, r, cut, least)) = absurd (uncut s l r e cut)
 fault_once b s n m (inr (l, r, cut, least)) (inl (f, other, same)) = absurd (uncut s l r f cut)
@@ -76,7 +80,7 @@ stops_once {m = m} {j = j} (later {k = k} {b = b} {s = s} {rest = r} y p h) (lat
 -- ---- an opening
 
 module _ (text : List ℕ) (list work : ℕ) where
-  too_long_not : longest < length text → length text ≤ longest → ⊥
+  too_long_not : longest_text < length text → length text ≤ longest_text → ⊥
   too_long_not long short = omega (arith, long, short)
 
   no_regime_not : (x : List ℕ) → text ≡ mark_line ++ x → ((g : Regime) (y : List ℕ) → x ≢ regime_line g ++ y) → (g : Regime) (rest : List ℕ) → Begins text g rest → ⊥
@@ -96,13 +100,17 @@ module _ (text : List ℕ) (list work : ℕ) where
   one_last y z n m x w least other =
       row_once (lent list work ++ whole y) n m least (subst (λ (b : Book). Least (lent list work ++ whole b) m) (reads_once text z y w x) other)
 
-  pub opened_not_refused : (z : Book) → Reads text z → None (lent list work ++ whole z) → {n l : ℕ} → OpeningRefused text list work n l → ⊥
+  pub opened_not_refused : (z : Book) → Reads text z → NoneApplies (lent list work ++ whole z) → {n l : ℕ} → OpeningRefused text list work n l → ⊥
   opened_not_refused z reads none (too_long long) = too_long_not long reads.0
   opened_not_refused z reads none (no_mark short other) = other (regime_line reads.1.0 ++ reads.1.1) reads.1.2
   opened_not_refused z reads none (no_regime short x is other) = no_regime_not x is other reads.1.0 reads.1.1 reads.1.2
   opened_not_refused z reads none (a_line short g rest begins {n = n} {l = l} stops) = read_not g rest n l begins stops z reads
   opened_not_refused z reads none (at_last {z = y} other {n = n} least) =
       none.none n (subst (λ (b : Book). Any (lent list work ++ whole b) n) (reads_once text y z other reads) least.applies)
+
+  -- so a text that is read, and the whole of which is refused for nothing, opens its book
+  pub opens : (b z : Book) → Reads text z → NoneApplies (lent list work ++ whole z) → Outcome b (opening text list work) done z
+  opens b z reads none = ((λ n l refused. opened_not_refused z reads none refused), tt, reads)
 
   -- the first of these grounds that applies decides
   pub opening_once : {n l m j : ℕ} → OpeningRefused text list work n l → OpeningRefused text list work m j → (n ≡ m) × (l ≡ j)

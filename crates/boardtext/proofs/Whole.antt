@@ -3,11 +3,12 @@ use Rattle.std.proofs.Common.{◌≡◌, ℕ, ◌<◌, ◌≤◌, true, not, leb
 use Rattle.std.proofs.lemmas.Bool.{and_parts, and_from}
 use Rattle.std.specs.Str.{all_ascii_digits}
 use Rattle.std.proofs.lemmas.Fmt.{digits_decimal}
-use Rattle.grammar.specs.Text.{is_digit}
+use Rattle.meaning.specs.Measures as measures
+use Rattle.grammar.specs.Text.{number_limit, is_digit}
 use Rattle.grammar.specs.Phrase.{Kind, Phrase, one, or, lone, and, a_role, a_permission, no_users, braces, parens, a_user, also, render, meaning, Short}
 use Rattle.grammar.proofs.Numbers.{own}
-use Rattle.lines.specs.Entries.{entries, AllShort}
-use Rattle.lines.specs.Bodies.{Row, roles_in, rows, users_in, Clause, always_true, in_set, clause_bytes, ProperClause, Assigning, assigns, Sides, sides}
+use Rattle.lines.specs.Entries.{AllShort, entry_bytes}
+use Rattle.lines.specs.Bodies.{roles_in, users_in, Clause, always_true, in_set, clause_bytes, ProperClause, Assigning, assigns, Sides, sides, RoleListing, role_listings}
 use Rattle.lines.specs.Lines.{Sentence, word, bodies, lines, Fine}
 use Rattle.lines.specs.declared.keyword.Keyword.{Keyword}
 use Rattle.lines.specs.declared.keyword.Keyword.TheVariants.{Ua, Pa, Rh, Trust, Assign, Revoke, Always, Never, Possible, Necessary}
@@ -25,13 +26,13 @@ digits (d ∷ ds) h =
     let l : 48 ≤ d = leb-true 48 d q.0 in
     and_from _ _ (ap not (ne_eqb d 10 (λ e. omega arith))) (digits ds p.1)
 
-number : (n : ℕ) → n < 100000 → unbroken (decimal n) ≡ true
+number : (n : ℕ) → n < number_limit → unbroken (decimal n) ≡ true
 number n l = digits (decimal n) (digits_decimal own n (omega arith))
 
 module _ (c : ℕ) (goes : goes_on c ≡ true) where
-  many : (ns : List ℕ) → AllShort ns → unbroken (entries c ns) ≡ true
+  many : (ns : List ℕ) → AllShort ns → unbroken (entry_bytes c ns) ≡ true
   many [] h = refl
-  many (n ∷ ns) h = and_from _ _ goes (joined (decimal n) (entries c ns) (number n h.0) (many ns h.1))
+  many (n ∷ ns) h = and_from _ _ goes (joined (decimal n) (entry_bytes c ns) (number n h.0) (many ns h.1))
 
 written : {k : Kind} (p : Phrase k) → Short (meaning p) → unbroken (render p) ≡ true
 written (one t) h = written t h
@@ -46,9 +47,9 @@ written (parens s) h = joined (render s) (41 ∷ []) (written s h) refl
 written (a_user n) h = number n h
 written (also us n) h = joined (render us) (44 ∷ 117 ∷ decimal n) (written us h.0) (number n h.1)
 
-row : (letter limit : ℕ) (between : List ℕ) → goes_on letter ≡ true → unbroken between ≡ true → (x : Row) → (rows letter limit between).proper x → unbroken ((rows letter limit between).bytes x) ≡ true
+row : (letter limit : ℕ) (between : List ℕ) → goes_on letter ≡ true → unbroken between ≡ true → (x : RoleListing) → (role_listings letter limit between).proper x → unbroken ((role_listings letter limit between).bytes x) ≡ true
 row letter limit between l b x h =
-    and_from _ _ l (joined (decimal x.subject) (between ++ entries 114 (roles_in x)) (number x.subject h.0) (joined between (entries 114 (roles_in x)) b (many 114 refl (roles_in x) h.1)))
+    and_from _ _ l (joined (decimal x.subject) (between ++ entry_bytes 114 (roles_in x)) (number x.subject h.0) (joined between (entry_bytes 114 (roles_in x)) b (many 114 refl (roles_in x) h.1)))
 
 clause : (c : Clause) → ProperClause c → unbroken (clause_bytes c) ≡ true
 clause always_true h = refl
@@ -56,19 +57,19 @@ clause (in_set p) h = written p h.0
 
 assigning : (x : Assigning) → assigns.proper x → unbroken (assigns.bytes x) ≡ true
 assigning x h =
-    joined (decimal x.row.subject) (codes " : " ++ (clause_bytes x.clause ++ (codes " :" ++ entries 114 (roles_in x.row)))) (number x.row.subject h.0)
-    (joined (clause_bytes x.clause) (codes " :" ++ entries 114 (roles_in x.row)) (clause x.clause h.2) (many 114 refl (roles_in x.row) h.1))
+    joined (decimal x.row.subject) (codes " : " ++ (clause_bytes x.clause ++ (codes " :" ++ entry_bytes 114 (roles_in x.row)))) (number x.row.subject h.0)
+    (joined (clause_bytes x.clause) (codes " :" ++ entry_bytes 114 (roles_in x.row)) (clause x.clause h.2) (many 114 refl (roles_in x.row) h.1))
 
 both : (x : Sides) → sides.proper x → unbroken (sides.bytes x) ≡ true
 both x h = joined (render x.larger) (codes " >= " ++ render x.smaller) (written x.larger h.0) (written x.smaller h.1)
 
 body : (k : Keyword) (x : (bodies k).Form) → (bodies k).proper x → unbroken ((bodies k).bytes x) ≡ true
-body Ua x h = row 117 65536 [] refl refl x h
-body Pa x h = row 112 32 [] refl refl x h
-body Rh x h = row 114 64 [] refl refl x h
+body Ua x h = row 117 measures.users [] refl refl x h
+body Pa x h = row 112 measures.permissions [] refl refl x h
+body Rh x h = row 114 measures.roles [] refl refl x h
 body Trust x h = many 117 refl (users_in x) h
 body Assign x h = assigning x h
-body Revoke x h = row 114 64 (codes " :") refl refl x h
+body Revoke x h = row 114 measures.roles (codes " :") refl refl x h
 body Always x h = both x h
 body Never x h = both x h
 body Possible x h = both x h

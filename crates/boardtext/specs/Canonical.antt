@@ -7,11 +7,11 @@ use Rattle.meaning.specs.Sets.{UserSet, members, nobody, union, intersection, Qu
 use Rattle.meaning.specs.Requirements.{Requirement, always, never}
 use Rattle.meaning.specs.declared.terms.Regime.TheVariants.{Aatu, Aar}
 use Rattle.grammar.specs.Phrase.{render}
-use Rattle.lines.specs.Entries.{entries}
 use Rattle.texts.specs.Board.{mark_line, regime_line}
 use Rattle.pen.specs.Ascending.{ascending}
 use Rattle.pen.specs.Canon.{as_set}
 use Rattle.book.specs.Book.{Book}
+use Rattle.lines.specs.Entries.{entry_bytes}
 
 -- a line, and the byte that ends it
 abbrev pub ended : List ℕ → List ℕ
@@ -27,7 +27,7 @@ each text (x ∷ xs) = ended (text x) ++ each text xs
 -- the line of a number and the roles beside it; where there are none there is no line
 abbrev pub row_line : List ℕ → ℕ → List ℕ → List ℕ
 row_line word n [] = []
-row_line word n (r ∷ rs) = ended (word ++ (decimal n ++ entries 114 (r ∷ rs)))
+row_line word n (r ∷ rs) = ended (word ++ (decimal n ++ entry_bytes 114 (r ∷ rs)))
 
 -- the lines of the numbers below a limit, ascending, and so the roles of each
 unfoldable pub row_lines : List ℕ → (ℕ → Row) → ℕ → List ℕ
@@ -38,28 +38,28 @@ row_lines word f (suc n) = row_lines word f n ++ row_line word n (ascending (f n
 
 abbrev pub trust_line : List ℕ → List ℕ
 trust_line [] = []
-trust_line (u ∷ us) = ended (codes "trust" ++ entries 117 (u ∷ us))
+trust_line (u ∷ us) = ended (codes "trust" ++ entry_bytes 117 (u ∷ us))
 
 -- ---- rules and requirements
 
 -- the set that meets a condition; no set is `true`, which stands alone
-abbrev pub set_of : Condition → UserSet
-set_of everybody = nobody
-set_of (in_role r) = members r
-set_of (both c d) = intersection (set_of c) (set_of d)
-set_of (either c d) = union (set_of c) (set_of d)
+abbrev pub set_of_condition : Condition → UserSet
+set_of_condition everybody = nobody
+set_of_condition (in_role r) = members r
+set_of_condition (both c d) = intersection (set_of_condition c) (set_of_condition d)
+set_of_condition (either c d) = union (set_of_condition c) (set_of_condition d)
 
 abbrev pub condition_text : Condition → List ℕ
 condition_text everybody = codes "true"
-condition_text (in_role r) = render (as_set (set_of (in_role r)))
-condition_text (both c d) = render (as_set (set_of (both c d)))
-condition_text (either c d) = render (as_set (set_of (either c d)))
+condition_text (in_role r) = render (as_set (set_of_condition (in_role r)))
+condition_text (both c d) = render (as_set (set_of_condition (both c d)))
+condition_text (either c d) = render (as_set (set_of_condition (either c d)))
 
 abbrev pub assign_text : AssignRule → List ℕ
-assign_text rule = codes "assign r" ++ (decimal rule.admin ++ (codes " : " ++ (condition_text rule.condition ++ (codes " :" ++ entries 114 (ascending rule.targets roles)))))
+assign_text rule = codes "assign r" ++ (decimal rule.admin ++ (codes " : " ++ (condition_text rule.condition ++ (codes " :" ++ entry_bytes 114 (ascending rule.targets roles)))))
 
 abbrev pub revoke_text : RevokeRule → List ℕ
-revoke_text rule = codes "revoke r" ++ (decimal rule.admin ++ (codes " :" ++ entries 114 (ascending rule.targets roles)))
+revoke_text rule = codes "revoke r" ++ (decimal rule.admin ++ (codes " :" ++ entry_bytes 114 (ascending rule.targets roles)))
 
 abbrev pub question_text : Question → List ℕ
 question_text q = render (as_set q.larger) ++ (codes " >= " ++ render (as_set q.smaller))

@@ -2,6 +2,7 @@
 use Rattle.std.proofs.Common.{◌≡◌, ℕ, ◌<◌, true, ◌&&◌, T, eqb, ltb, List, [], ◌∷◌, subst, eqb→eq, ⊎_elim}
 use mathlib.Core.Path.{subst⁻¹}
 use Rattle.std.proofs.Math.Facts.{ltb_yes}
+use Rattle.meaning.specs.Measures as measures
 use Rattle.meaning.specs.Membership.{IsUser}
 use Rattle.meaning.specs.Lists.{listed}
 use Rattle.meaning.proofs.Tests.{either, first, second, as_test}
@@ -26,24 +27,24 @@ below limit (m ∷ ns) t n h = ⊎_elim
     (either (eqb n m) (listed ns n) h)
 
 abbrev pub Inside : Entry → Type 0
-Inside (pairs u rs) = IsUser u × AllBelow 64 rs
-Inside (gifts n rs) = (n < 32) × AllBelow 64 rs
-Inside (edges q rs) = (q < 64) × AllBelow 64 rs
-Inside (trusts us) = AllBelow 65536 us
+Inside (pairs u rs) = IsUser u × AllBelow measures.roles rs
+Inside (gifts n rs) = (n < measures.permissions) × AllBelow measures.roles rs
+Inside (edges q rs) = (q < measures.roles) × AllBelow measures.roles rs
+Inside (trusts us) = AllBelow measures.users us
 Inside (assigns rule rs) = Unit {0}
 Inside (revokes rule rs) = Unit {0}
 Inside (requires d) = Unit {0}
 
-row_inside : (limit n : ℕ) (rs : List ℕ) → (ltb n limit && all_below 64 rs) ≡ true → (n < limit) × AllBelow 64 rs
+row_inside : (limit n : ℕ) (rs : List ℕ) → (ltb n limit && all_below measures.roles rs) ≡ true → (n < limit) × AllBelow measures.roles rs
 row_inside limit n rs e =
-    let t = as_test (ltb n limit && all_below 64 rs) e in
-    (ltb_yes (first (ltb n limit) (all_below 64 rs) t), below 64 rs (second (ltb n limit) (all_below 64 rs) t))
+    let t = as_test (ltb n limit && all_below measures.roles rs) e in
+    (ltb_yes (first (ltb n limit) (all_below measures.roles rs) t), below measures.roles rs (second (ltb n limit) (all_below measures.roles rs) t))
 
 from_body : (k : Keyword) (b : (bodies k).Form) → Fine (record { keyword = k; body = b }) → Inside (entry_of k b)
-from_body Ua b h = row_inside 65536 b.subject (roles_in b) h.ranged
-from_body Pa b h = row_inside 32 b.subject (roles_in b) h.ranged
-from_body Rh b h = row_inside 64 b.subject (roles_in b) h.ranged
-from_body Trust b h = below 65536 (users_in b) (as_test (all_below 65536 (users_in b)) h.ranged)
+from_body Ua b h = row_inside measures.users b.subject (roles_in b) h.ranged
+from_body Pa b h = row_inside measures.permissions b.subject (roles_in b) h.ranged
+from_body Rh b h = row_inside measures.roles b.subject (roles_in b) h.ranged
+from_body Trust b h = below measures.users (users_in b) (as_test (all_below measures.users (users_in b)) h.ranged)
 from_body Assign b h = tt
 from_body Revoke b h = tt
 from_body Always b h = tt

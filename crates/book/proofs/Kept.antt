@@ -2,16 +2,17 @@
 use Rattle.std.proofs.Common.{◌≡◌, ℕ, suc, ◌<◌, ◌≤◌, Bool, not, ◌&&◌, ◌||◌, T, eqb, List, [], ◌∷◌, ◌++◌, length, refl, inl, inr, ⊎_elim, arith, eqb→eq}
 use mathlib.Core.Path.{subst⁻¹}
 use Rattle.std.proofs.lemmas.Bool.{cases_lt}
+use Rattle.meaning.specs.Measures as measures
 use Rattle.meaning.specs.Membership.{User, Role, Permission, IsUser, State, Edges}
 use Rattle.meaning.specs.Rules.{AssignRule, RevokeRule, aatu, aar, Policy, Regime as RegimeMeant}
 use Rattle.meaning.specs.Lists.{Nth, listed, Apart}
 use Rattle.meaning.specs.Requirements.{Requirement}
 use Rattle.meaning.specs.Rows.{Holders}
 use Rattle.meaning.proofs.Tests.{either, first, second}
-use Rattle.book.specs.Book.{Book, Entry, pairs, gifts, edges, trusts, assigns, revokes, requires, put, Took, plus, minus, with_state, with_policy, with_requirements, with_edges, with_gives, with_trusted, with_assigns, with_revokes}
+use Rattle.book.specs.Book.{Book, Entry, pairs, gifts, edges, trusts, assigns, revokes, requires, put, Took, plus, minus, with_state, with_policy, with_requirements}
 use Rattle.book.specs.Grounds.{NoRow, AllTrusted}
-use Rattle.book.specs.Orderly.{Orderly, NoCircle, Said, Once, RuleSaid, RevokeSaid}
-use Rattle.book.specs.Refusals.{None, entered}
+use Rattle.book.specs.Orderly.{Orderly, NoCircle, Said, Once}
+use Rattle.book.specs.Refusals.{entered, NoneApplies}
 use Rattle.texts.specs.declared.faults.Way.TheVariants.{Add}
 use Rattle.book.proofs.Inside.{Inside, inside}
 use Rattle.book.proofs.Listing.{snoc_split, snoc_once, snoc_length, still_there, without_once, without_length}
@@ -19,6 +20,8 @@ use Rattle.book.proofs.Ordered.{state_orderly}
 use Rattle.book.proofs.Rowed.{few_after}
 use Rattle.book.proofs.Seniority.{grown_no_circle, fewer_no_circle}
 use Rattle.book.proofs.Trusting.{few_trusted_after}
+use Rattle.book.proofs.Parts.{with_edges, with_gives, with_trusted, with_assigns, with_revokes}
+use Rattle.book.proofs.Sayings.{RuleSaid, RevokeSaid}
 
 module _ (b : Book) (o : Orderly b) where
   -- ---- pairs
@@ -34,10 +37,10 @@ module _ (b : Book) (o : Orderly b) where
       o.few_rows
       (λ none us apart held. ⊎_elim
       (λ l. l)
-      (λ (full : 100 ≤ length us). absurd (room (record { none = none; full = λ free. (let l : length us < 100 = free us apart held in impossible (length us) l full) })))
-      (cases_lt (length us) 100)))
+      (λ (full : measures.rows ≤ length us). absurd (room (record { none = none; full = λ free. (let l : length us < measures.rows = free us apart held in impossible (length us) l full) })))
+      (cases_lt (length us) measures.rows)))
     where
-      impossible : (n : ℕ) → n < 100 → 100 ≤ n → ⊥
+      impossible : (n : ℕ) → n < measures.rows → measures.rows ≤ n → ⊥
       impossible n l k = omega arith
 
   pub less_state : (s : State) → ((u : User) (r : Role) → T (s u r) → T (b.state u r)) → Orderly (with_state s b)
@@ -49,7 +52,7 @@ module _ (b : Book) (o : Orderly b) where
 
   -- ---- what a permission is given to
 
-  pub other_gifts : (g : Permission → Role → Bool) → ((n : Permission) (r : Role) → T (g n r) → (n < 32) × (r < 64)) → Orderly (with_policy (with_gives g b.policy) b)
+  pub other_gifts : (g : Permission → Role → Bool) → ((n : Permission) (r : Role) → T (g n r) → (n < measures.permissions) × (r < measures.roles)) → Orderly (with_policy (with_gives g b.policy) b)
   other_gifts g small = record {
     assigned_inside = o.assigned_inside;
     edges_inside = o.edges_inside;
@@ -72,7 +75,7 @@ module _ (b : Book) (o : Orderly b) where
 
   -- ---- edges
 
-  pub other_edges : (e : Edges) → ((q r : Role) → T (e q r) → (q < 64) × (r < 64)) → NoCircle e → Orderly (with_policy (with_edges e b.policy) b)
+  pub other_edges : (e : Edges) → ((q r : Role) → T (e q r) → (q < measures.roles) × (r < measures.roles)) → NoCircle e → Orderly (with_policy (with_edges e b.policy) b)
   other_edges e small none = record {
     assigned_inside = o.assigned_inside;
     edges_inside = small;
@@ -106,7 +109,7 @@ module _ (b : Book) (o : Orderly b) where
   keeps_by p z aar r t h = λ u n. h u (t refl u n)
 
   pub other_trusted : (f : User → Bool) → ((u : User) → T (f u) → IsUser u)
-      → ((us : List User) → Apart us → AllTrusted (with_trusted f b.policy) us → length us ≤ 32)
+      → ((us : List User) → Apart us → AllTrusted (with_trusted f b.policy) us → length us ≤ measures.trusted_users)
       → (b.policy.regime ≡ aar → (u : User) → T (f u) → T (b.policy.trusted u)) → Orderly (with_policy (with_trusted f b.policy) b)
   other_trusted f small few aar_less = record {
     assigned_inside = o.assigned_inside;
@@ -130,7 +133,7 @@ module _ (b : Book) (o : Orderly b) where
 
   -- ---- rules and requirements
 
-  pub other_assigns : (rules : List AssignRule) → length rules ≤ 32 → Once rules → ((k : ℕ) (rule : AssignRule) → Nth k rule rules → RuleSaid rule)
+  pub other_assigns : (rules : List AssignRule) → length rules ≤ measures.assign_rules → Once rules → ((k : ℕ) (rule : AssignRule) → Nth k rule rules → RuleSaid rule)
       → Orderly (with_policy (with_assigns rules b.policy) b)
   other_assigns rules few once said = record {
     assigned_inside = o.assigned_inside;
@@ -152,7 +155,7 @@ module _ (b : Book) (o : Orderly b) where
     requirements_said = o.requirements_said;
   }
 
-  pub other_revokes : (rules : List RevokeRule) → length rules ≤ 16 → Once rules → ((k : ℕ) (rule : RevokeRule) → Nth k rule rules → RevokeSaid rule)
+  pub other_revokes : (rules : List RevokeRule) → length rules ≤ measures.revoke_rules → Once rules → ((k : ℕ) (rule : RevokeRule) → Nth k rule rules → RevokeSaid rule)
       → (b.policy.regime ≡ aatu → (k : ℕ) (rule : RevokeRule) → Nth k rule rules → (j : ℕ) × (x : RevokeRule) × Nth j x b.policy.revokes)
       → Orderly (with_policy (with_revokes rules b.policy) b)
   other_revokes rules few once said aatu_none = record {
@@ -175,7 +178,7 @@ module _ (b : Book) (o : Orderly b) where
     requirements_said = o.requirements_said;
   }
 
-  pub other_requirements : (ds : List Requirement) → length ds ≤ 16 → Once ds → ((k : ℕ) (d : Requirement) → Nth k d ds → Said (requires d))
+  pub other_requirements : (ds : List Requirement) → length ds ≤ measures.requirements → Once ds → ((k : ℕ) (d : Requirement) → Nth k d ds → Said (requires d))
       → Orderly (with_requirements ds b)
   other_requirements ds few once said = record {
     assigned_inside = o.assigned_inside;
@@ -204,20 +207,20 @@ one_more n m top e full = ⊎_elim (λ (l : n < top). omega arith) (λ (l : top 
 -- ---- every entry
 
 module _ (b : Book) (o : Orderly b) where
-  pub put_orderly : (e : Entry) → Said e → None (entered Add b e) → Orderly (put e b)
+  pub put_orderly : (e : Entry) → Said e → NoneApplies (entered Add b e) → Orderly (put e b)
   put_orderly (pairs u rs) said none = with_pairs b o u rs (inside (pairs u rs) said) (λ h. none.none 13 (inr (inr (inl (refl, h)))))
   put_orderly (gifts n rs) said none =
       let (small, roles) = inside (gifts n rs) said in
       other_gifts b o (plus b.policy.gives n rs) (λ m r t. ⊎_elim
       (λ h. o.given_inside m r h)
-      (λ h. (subst⁻¹ (λ (x : ℕ). x < 32) (eqb→eq m n (first (eqb m n) (listed rs r) h)) small, roles r (second (eqb m n) (listed rs r) h)))
+      (λ h. (subst⁻¹ (λ (x : ℕ). x < measures.permissions) (eqb→eq m n (first (eqb m n) (listed rs r) h)) small, roles r (second (eqb m n) (listed rs r) h)))
       (either (b.policy.gives m r) (eqb m n && listed rs r) t))
   put_orderly (edges q rs) said none =
       let (small, roles) = inside (edges q rs) said in
       other_edges b o (plus b.policy.edge q rs)
       (λ m r t. ⊎_elim
       (λ h. o.edges_inside m r h)
-      (λ h. (subst⁻¹ (λ (x : ℕ). x < 64) (eqb→eq m q (first (eqb m q) (listed rs r) h)) small, roles r (second (eqb m q) (listed rs r) h)))
+      (λ h. (subst⁻¹ (λ (x : ℕ). x < measures.roles) (eqb→eq m q (first (eqb m q) (listed rs r) h)) small, roles r (second (eqb m q) (listed rs r) h)))
       (either (b.policy.edge m r) (eqb m q && listed rs r) t))
       (grown_no_circle b.policy.edge q rs o.no_circle (λ h. none.none 14 (inr (inr (inr (inl (refl, h)))))))
   put_orderly (trusts us) said none =
@@ -227,18 +230,18 @@ module _ (b : Book) (o : Orderly b) where
       (λ e v t. absurd (none.none 8 (inl (refl, e))))
   put_orderly (assigns rule rs) said none =
       other_assigns b o (b.policy.assigns ++ rule ∷ [])
-      (let l = snoc_length b.policy.assigns rule in one_more (length b.policy.assigns) (length (b.policy.assigns ++ rule ∷ [])) 32 l (λ h. none.none 13 (inr (inr (inl (refl, h))))))
+      (let l = snoc_length b.policy.assigns rule in one_more (length b.policy.assigns) (length (b.policy.assigns ++ rule ∷ [])) measures.assign_rules l (λ h. none.none 13 (inr (inr (inl (refl, h))))))
       (snoc_once b.policy.assigns rule (λ k n. none.none 10 (inr (inl (refl, inl (k, n))))) o.assigns_once)
       (λ k x n. ⊎_elim (λ m. o.assigns_said k x m) (λ e. subst⁻¹ RuleSaid e (rs, said)) (snoc_split b.policy.assigns rule n))
   put_orderly (revokes rule rs) said none =
       other_revokes b o (b.policy.revokes ++ rule ∷ [])
-      (let l = snoc_length b.policy.revokes rule in one_more (length b.policy.revokes) (length (b.policy.revokes ++ rule ∷ [])) 16 l (λ h. none.none 13 (inr (inr (inl (refl, h))))))
+      (let l = snoc_length b.policy.revokes rule in one_more (length b.policy.revokes) (length (b.policy.revokes ++ rule ∷ [])) measures.revoke_rules l (λ h. none.none 13 (inr (inr (inl (refl, h))))))
       (snoc_once b.policy.revokes rule (λ k n. none.none 10 (inr (inl (refl, inl (k, n))))) o.revokes_once)
       (λ k x n. ⊎_elim (λ m. o.revokes_said k x m) (λ e. subst⁻¹ RevokeSaid e (rs, said)) (snoc_split b.policy.revokes rule n))
       (λ e k x n. absurd (none.none 8 (inl (refl, e))))
   put_orderly (requires d) said none =
       other_requirements b o (b.requirements ++ d ∷ [])
-      (let l = snoc_length b.requirements d in one_more (length b.requirements) (length (b.requirements ++ d ∷ [])) 16 l (λ h. none.none 13 (inr (inr (inl (refl, h))))))
+      (let l = snoc_length b.requirements d in one_more (length b.requirements) (length (b.requirements ++ d ∷ [])) measures.requirements l (λ h. none.none 13 (inr (inr (inl (refl, h))))))
       (snoc_once b.requirements d (λ k n. none.none 10 (inr (inl (refl, inl (k, n))))) o.requirements_once)
       (λ k x n. ⊎_elim (λ m. o.requirements_said k x m) (λ e. subst⁻¹ (λ (y : Requirement). Said (requires y)) e said) (snoc_split b.requirements d n))
 

@@ -1,5 +1,8 @@
+pub mod Parts
+pub mod Sayings
 pub mod Ladder
 pub mod Rowed
+pub mod Coming
 pub mod Granting
 pub mod Ordered
 pub mod Inside

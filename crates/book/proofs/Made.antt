@@ -2,10 +2,11 @@
 use Rattle.std.proofs.Common.{◌≡◌, sym, ap, ◌∙◌}
 use Rattle.texts.specs.declared.faults.Way.{Way}
 use Rattle.texts.specs.declared.faults.Way.TheVariants.{Add, Remove}
-use Rattle.book.specs.Book.{Book, Entry, pairs, gifts, edges, trusts, assigns, revokes, requires, Took, with_policy, with_requirements, with_assigns, with_revokes}
+use Rattle.book.specs.Book.{Book, Entry, pairs, gifts, edges, trusts, assigns, revokes, requires, Took, with_policy, with_requirements}
 use Rattle.book.specs.Calls.{Makes}
 use Rattle.book.specs.Orderly.{Once}
 use Rattle.book.proofs.Listing.{without_unique}
+use Rattle.book.proofs.Parts.{with_assigns, with_revokes}
 
 module _ (b : Book) (assigns_once : Once b.policy.assigns) (revokes_once : Once b.policy.revokes) (requirements_once : Once b.requirements) where
   took_one : (e : Entry) (y z : Book) → Took e b y → Took e b z → y ≡ z

@@ -3,14 +3,15 @@ use Rattle.std.proofs.Common.{◌≡◌, ℕ, suc, ◌<◌, ◌≤◌, not, T, e
 use mathlib.Core.Path.{subst⁻¹}
 use lib.Dec.{eqb_refl}
 use Rattle.std.proofs.lemmas.Bool.{cases_eq, cases_lt}
+use Rattle.meaning.specs.Measures as measures
 use Rattle.meaning.specs.Lists.{listed, Apart}
 use Rattle.meaning.specs.Membership.{User, State}
 use Rattle.meaning.specs.Rows.{Holder, Holders, FreeRow}
 use Rattle.meaning.proofs.Tests.{either, or_left, or_right, clash, deny}
 
--- at most 100 users have a row
+-- at most measures.rows users have a row
 abbrev pub FewRows : State → Type 0
-FewRows s = (us : List User) → Apart us → Holders s us → length us ≤ 100
+FewRows s = (us : List User) → Apart us → Holders s us → length us ≤ measures.rows
 
 module _ (s t : State) (u : User) (others : (v : User) → (v ≡ u → ⊥) → Holder t v → Holder s v) where
   -- users among whom u is not
@@ -62,10 +63,10 @@ module _ (s t : State) (u : User) (others : (v : User) → (v ≡ u → ⊥) →
   pub few_after : FewRows s → ((Holder s u → ⊥) → FreeRow s) → FewRows t
   few_after few room us a h = go (split us a h)
     where
-      go : Holders s us ⊎ Besides us → length us ≤ 100
+      go : Holders s us ⊎ Besides us → length us ≤ measures.rows
       go (inl k) = few us a k
       go (inr b) = ⊎_elim
-          (λ (many : 100 < length us). absurd (let no : Holder s u → ⊥ = λ k. (let l : length us ≤ 100 = few us a (b.all k) in omega arith) in
-          let l : length b.rest < 100 = room no b.rest b.apart b.held in omega (arith, b.one_more)))
-          (λ (l : length us ≤ 100). l)
-          (cases_lt 100 (length us))
+          (λ (many : measures.rows < length us). absurd (let no : Holder s u → ⊥ = λ k. (let l : length us ≤ measures.rows = few us a (b.all k) in omega arith) in
+          let l : length b.rest < measures.rows = room no b.rest b.apart b.held in omega (arith, b.one_more)))
+          (λ (l : length us ≤ measures.rows). l)
+          (cases_lt measures.rows (length us))

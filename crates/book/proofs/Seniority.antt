@@ -5,10 +5,10 @@ use Rattle.meaning.specs.Membership.{Role, Edges, Senior, same, above}
 use Rattle.meaning.specs.Lists.{listed}
 use Rattle.meaning.proofs.Tests.{either, first, second}
 use Rattle.book.specs.Book.{plus}
-use Rattle.book.specs.Grounds.{Some}
 use Rattle.book.specs.Orderly.{NoCircle}
+use Rattle.book.specs.Grounds.{AnyListed}
 
-pub some_of : (P : ℕ → Type 0) (ns : List ℕ) (n : ℕ) → T (listed ns n) → P n → Some P ns
+pub some_of : (P : ℕ → Type 0) (ns : List ℕ) (n : ℕ) → T (listed ns n) → P n → AnyListed P ns
 some_of P [] n h p = absurd h
 some_of P (m ∷ ns) n h p = ⊎_elim (λ e. inl (subst P (eqb→eq n m e) p)) (λ i. inr (some_of P ns n i p)) (either (eqb n m) (listed ns n) h)
 
@@ -47,7 +47,7 @@ module _ (e : Edges) (top : Role) (rs : List Role) where
       (either (e q m) (eqb q top && listed rs m) is)
 
   -- where no new junior is senior to the role over it
-  pub grown_no_circle : NoCircle e → (Some (λ r. Senior grown r top) rs → ⊥) → NoCircle grown
+  pub grown_no_circle : NoCircle e → (AnyListed (λ r. Senior grown r top) rs → ⊥) → NoCircle grown
   grown_no_circle none clear q r is s = ⊎_elim
       (λ old. ⊎_elim (λ a. none q r old a) (λ u. clear (some_of (λ x. Senior grown x top) rs u.to u.new (join u.down (above is u.up)))) (by_new s))
       (λ added. clear (some_of (λ x. Senior grown x top) rs r (second (eqb q top) (listed rs r) added)

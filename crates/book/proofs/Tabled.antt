@@ -4,19 +4,20 @@ use Rattle.grammar.specs.declared.grounds.Ground.TheVariants.{Syntax, Range, Mea
 use Rattle.lines.specs.Languages.{Language}
 use Rattle.texts.specs.declared.faults.Fault.{Fault}
 use Rattle.texts.specs.declared.faults.Fault.TheVariants.{TooLong, Mark, InLine}
-use Rattle.texts.specs.Answers.{told, longest, Faulty}
+use Rattle.texts.specs.Lengths.{longest_line}
+use Rattle.texts.specs.Answers.{told, Faulty}
 use Rattle.book.specs.Numbers.{number_of}
-use Rattle.book.specs.Refusals.{Row, row, None, Least, written}
+use Rattle.book.specs.Refusals.{row, Least, written, NoneApplies, TableRow}
 use Rattle.book.specs.Calls.{line_of}
 use Rattle.book.proofs.Ladder.{Above, pass, here, skip}
 use Rattle.book.specs.Faults.{refusal_of}
 
-module _ (L : Language) (text : List ℕ) (others : List Row) (above : Above 6 others) where
-  abbrev pub tabled : List Row
-  tabled = row 1 (longest < length text) ∷ (written L text ++ others)
+module _ (L : Language) (text : List ℕ) (others : List TableRow) (above : Above 6 others) where
+  abbrev pub tabled : List TableRow
+  tabled = row 1 (longest_line < length text) ∷ (written L text ++ others)
 
   -- a text without a fault passes the rows of its own
-  pub faultless : ((d : Fault) → Faulty L text d → ⊥) → None others → None tabled
+  pub faultless : ((d : Fault) → Faulty L text d → ⊥) → NoneApplies others → NoneApplies tabled
   faultless f rest =
       pass (λ h. f TooLong h) (pass (λ h. f (InLine Syntax 1) (refl, h)) (pass (λ h. f (InLine Range 1) (refl, h)) (pass (λ h. f (InLine Measure 1) (refl, h)) (pass (λ h. f (InLine NotSemiStatic 1) (refl, h)) rest))))
 

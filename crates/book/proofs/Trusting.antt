@@ -1,13 +1,14 @@
 -- How many users are trusted once a line has named some more.
 use Rattle.std.proofs.Common.{◌≡◌, ◌+◌, ◌<◌, ◌≤◌, ◌||◌, T, eqb, List, [], ◌∷◌, length, refl, ⊎_elim, arith}
 use Rattle.std.proofs.lemmas.Bool.{cases_lt}
+use Rattle.meaning.specs.Measures as measures
 use Rattle.meaning.specs.Membership.{User}
 use Rattle.meaning.specs.Rules.{Policy}
 use Rattle.meaning.specs.Lists.{listed, Apart}
 use Rattle.meaning.proofs.Tests.{either, or_left, or_right, clash, deny}
 use Rattle.theory.proofs.Turns.{few}
-use Rattle.book.specs.Book.{with_trusted}
 use Rattle.book.specs.Grounds.{AllTrusted, Crowded}
+use Rattle.book.proofs.Parts.{with_trusted}
 
 -- all of these users are named in a list
 abbrev Named : List User → List User → Type 0
@@ -59,13 +60,13 @@ module _ (p : Policy) (us : List User) where
       })
       (either (p.trusted x) (listed us x) t)
 
-  pub few_trusted_after : (Crowded p us → ⊥) → (ws : List User) → Apart ws → AllTrusted now_trusted ws → length ws ≤ 32
+  pub few_trusted_after : (Crowded p us → ⊥) → (ws : List User) → Apart ws → AllTrusted now_trusted ws → length ws ≤ measures.trusted_users
   few_trusted_after room ws a t =
       let b : Parted ws = part ws a t in
       ⊎_elim
-      (λ (many : 32 < length ws). absurd (
+      (λ (many : measures.trusted_users < length ws). absurd (
       let l : length b.new ≤ length us = few b.new us b.new_apart b.new_named in
       let s : length b.old + length b.new ≡ length ws = b.sum in
       room (record { there = b.old; apart = b.old_apart; trusted = b.old_trusted; many = omega (arith, l, s, many) })))
       (λ l. l)
-      (cases_lt 32 (length ws))
+      (cases_lt measures.trusted_users (length ws))

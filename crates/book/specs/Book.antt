@@ -34,28 +34,13 @@ pub data Entry : Type 0 where
 
 -- the book with another part in place of one of its own
 abbrev pub with_state : State → Book → Book
-with_state s b = record { policy = b.policy; state = s; requirements = b.requirements }
+with_state s b = record b { state = s }
 
 abbrev pub with_policy : Policy → Book → Book
-with_policy p b = record { policy = p; state = b.state; requirements = b.requirements }
+with_policy p b = record b { policy = p }
 
 abbrev pub with_requirements : List Requirement → Book → Book
-with_requirements ds b = record { policy = b.policy; state = b.state; requirements = ds }
-
-abbrev pub with_edges : Edges → Policy → Policy
-with_edges e p = record { regime = p.regime; edge = e; gives = p.gives; trusted = p.trusted; assigns = p.assigns; revokes = p.revokes }
-
-abbrev pub with_gives : (Permission → Role → Bool) → Policy → Policy
-with_gives g p = record { regime = p.regime; edge = p.edge; gives = g; trusted = p.trusted; assigns = p.assigns; revokes = p.revokes }
-
-abbrev pub with_trusted : (User → Bool) → Policy → Policy
-with_trusted t p = record { regime = p.regime; edge = p.edge; gives = p.gives; trusted = t; assigns = p.assigns; revokes = p.revokes }
-
-abbrev pub with_assigns : List AssignRule → Policy → Policy
-with_assigns rules p = record { regime = p.regime; edge = p.edge; gives = p.gives; trusted = p.trusted; assigns = rules; revokes = p.revokes }
-
-abbrev pub with_revokes : List RevokeRule → Policy → Policy
-with_revokes rules p = record { regime = p.regime; edge = p.edge; gives = p.gives; trusted = p.trusted; assigns = p.assigns; revokes = rules }
+with_requirements ds b = record b { requirements = ds }
 
 -- a relation with the pairs of one number and a list more; and less
 abbrev pub plus : (User → Role → Bool) → User → List Role → User → Role → Bool
@@ -67,11 +52,11 @@ minus f u rs v q = f v q && not (v == u && listed rs q)
 -- what `+` puts in: a rule after those of its kind, a requirement last
 abbrev pub put : Entry → Book → Book
 put (pairs u rs) b = with_state (plus b.state u rs) b
-put (gifts n rs) b = with_policy (with_gives (plus b.policy.gives n rs) b.policy) b
-put (edges q rs) b = with_policy (with_edges (plus b.policy.edge q rs) b.policy) b
-put (trusts us) b = with_policy (with_trusted (λ v. b.policy.trusted v || listed us v) b.policy) b
-put (assigns rule rs) b = with_policy (with_assigns (b.policy.assigns ++ (rule ∷ [])) b.policy) b
-put (revokes rule rs) b = with_policy (with_revokes (b.policy.revokes ++ (rule ∷ [])) b.policy) b
+put (gifts n rs) b = with_policy (record b.policy { gives = plus b.policy.gives n rs }) b
+put (edges q rs) b = with_policy (record b.policy { edge = plus b.policy.edge q rs }) b
+put (trusts us) b = with_policy (record b.policy { trusted = λ v. b.policy.trusted v || listed us v }) b
+put (assigns rule rs) b = with_policy (record b.policy { assigns = b.policy.assigns ++ (rule ∷ []) }) b
+put (revokes rule rs) b = with_policy (record b.policy { revokes = b.policy.revokes ++ (rule ∷ []) }) b
 put (requires d) b = with_requirements (b.requirements ++ (d ∷ [])) b
 
 -- one entry is taken out of a list, and those behind it move down one number
@@ -82,9 +67,9 @@ pub data Without {A : Type 0} (x : A) : List A → List A → Type 0 where
 -- what `-` takes out
 abbrev pub Took : Entry → Book → Book → Type 0
 Took (pairs u rs) b z = z ≡ with_state (minus b.state u rs) b
-Took (gifts n rs) b z = z ≡ with_policy (with_gives (minus b.policy.gives n rs) b.policy) b
-Took (edges q rs) b z = z ≡ with_policy (with_edges (minus b.policy.edge q rs) b.policy) b
-Took (trusts us) b z = z ≡ with_policy (with_trusted (λ v. b.policy.trusted v && not (listed us v)) b.policy) b
-Took (assigns rule rs) b z = (rules : List AssignRule) × Without rule b.policy.assigns rules × (z ≡ with_policy (with_assigns rules b.policy) b)
-Took (revokes rule rs) b z = (rules : List RevokeRule) × Without rule b.policy.revokes rules × (z ≡ with_policy (with_revokes rules b.policy) b)
+Took (gifts n rs) b z = z ≡ with_policy (record b.policy { gives = minus b.policy.gives n rs }) b
+Took (edges q rs) b z = z ≡ with_policy (record b.policy { edge = minus b.policy.edge q rs }) b
+Took (trusts us) b z = z ≡ with_policy (record b.policy { trusted = λ v. b.policy.trusted v && not (listed us v) }) b
+Took (assigns rule rs) b z = (rules : List AssignRule) × Without rule b.policy.assigns rules × (z ≡ with_policy (record b.policy { assigns = rules }) b)
+Took (revokes rule rs) b z = (rules : List RevokeRule) × Without rule b.policy.revokes rules × (z ≡ with_policy (record b.policy { revokes = rules }) b)
 Took (requires d) b z = (ds : List Requirement) × Without d b.requirements ds × (z ≡ with_requirements ds b)

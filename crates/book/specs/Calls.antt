@@ -1,40 +1,41 @@
--- The calls of a story, when each is refused and with which number and line, and what it makes where it is not.
-use Rattle.std.specs.Prelude.{◌≡◌, ℕ, suc, ◌<◌, ◌≤◌, true, cond, not, ◌&&◌, ◌||◌, T, ◌⊎◌, List, [], ◌∷◌, ◌++◌, length, ◌==◌, ◌≢◌, nat_le}
-use Rattle.meaning.specs.Measures.{users, roles}
+-- The calls of a board, and when each is refused, with which number and line.
+use Rattle.std.specs.Prelude.{◌≡◌, ℕ, suc, ◌<◌, ◌≤◌, true, cond, not, ◌||◌, T, ◌⊎◌, List, [], ◌∷◌, ◌++◌, length, ◌==◌, ◌≢◌, nat_le}
+use Rattle.meaning.specs.Measures.{users, roles, permissions}
 use Rattle.meaning.specs.Membership.{User, Role}
 use Rattle.meaning.specs.Rules.{MayAdd, MayRemove}
-use Rattle.meaning.specs.Runs.{pair}
+use Rattle.meaning.specs.Ranks.{rank}
 use Rattle.meaning.specs.Terms.{regime_of}
 use Rattle.meaning.specs.declared.terms.Regime.{Regime}
 use Rattle.lines.specs.Languages.{Says}
 use Rattle.lines.specs.Lines.{Sentence, lines, questions}
 use Rattle.texts.specs.Answers.{Changing, changes}
-use Rattle.texts.specs.Answers.{longest as longest_line}
+use Rattle.texts.specs.Lengths.{longest_line, longest_text}
 use Rattle.texts.specs.Board.{Cut, unbroken, mark_line, regime_line}
-use Rattle.texts.specs.Board.{longest as longest_text}
 use Rattle.texts.specs.declared.faults.Way.{Way}
 use Rattle.texts.specs.declared.faults.Way.TheVariants.{Add, Remove}
-use Rattle.book.specs.Book.{Book, Entry, put, Took, blank, with_state}
+use Rattle.book.specs.Book.{Book, Entry, put, Took, blank}
 use Rattle.book.specs.Grounds.{NoRow}
-use Rattle.book.specs.Says.{says}
-use Rattle.book.specs.Refusals.{row, Row, Any, None, Least, written, entered, whole, lent}
+use Rattle.book.specs.Refusals.{row, TableRow, Any, NoneApplies, Least, written, entered, whole, lent}
+use Rattle.book.specs.Says.{line_entry}
 
--- opening, changing and asking come with a text and the lengths of the step list and the work table that are lent
+-- opening, changing and asking come with a text and the lengths of the step list and the work table that are lent; saving comes with the text to be written and the length of the place for it
 pub data Call : Type 0 where
   opening changing asking : (text : List ℕ) (list work : ℕ) → Call
   adding removing : (actor user role : ℕ) → Call
+  membership permission : (user number : ℕ) → Call
+  saving : (text : List ℕ) (place : ℕ) → Call
 
--- this number refuses, and no smaller one does
+-- this number refuses, and none of a smaller rank does
 pub record LeastOf (Refuses : ℕ → Type 0) (n : ℕ) : Type 0 where
   pub refuses : Refuses n
-  pub least : (m : ℕ) → Refuses m → n ≤ m
+  pub least : (m : ℕ) → Refuses m → rank n ≤ rank m
 
--- ---- the delegates' calls
+-- ---- calls with plain numbers
 
 abbrev pub OutOfRange : ℕ → ℕ → ℕ → Type 0
 OutOfRange a u r = (users ≤ a) ⊎ ((users ≤ u) ⊎ (roles ≤ r))
 
-abbrev pub additions : Book → User → User → Role → List Row
+abbrev pub additions : Book → User → User → Role → List TableRow
 additions b a u r =
     row 4 (OutOfRange a u r)
     ∷ row 9 (T (b.policy.trusted a))
@@ -43,13 +44,21 @@ additions b a u r =
     ∷ row 13 (NoRow b u)
     ∷ []
 
-abbrev pub removals : Book → User → User → Role → List Row
+abbrev pub removals : Book → User → User → Role → List TableRow
 removals b a u r =
     row 4 (OutOfRange a u r)
     ∷ row 9 (T (b.policy.trusted a))
     ∷ row 11 (T (not (b.state u r)))
     ∷ row 12 ((k : ℕ) → MayRemove b.policy b.state a u r k → ⊥)
     ∷ []
+
+-- a user, and a number that is below a limit
+abbrev pub lookups : (limit user number : ℕ) → List TableRow
+lookups limit u n = row 4 ((users ≤ u) ⊎ (limit ≤ n)) ∷ []
+
+-- a text, and a place for it
+abbrev pub savings : List ℕ → ℕ → List TableRow
+savings text place = row 7 (place < length text) ∷ []
 
 -- ---- a change
 
@@ -63,18 +72,22 @@ abbrev pub ChangeRefuses : Book → List ℕ → ℕ → ℕ → ℕ → Type 0
 ChangeRefuses b text list work n =
     Any (row 1 (longest_line < length text) ∷ (written changes text ++ lent list work)) n
     ⊎ ((f : Changing) × Says changes text f
-    × (Any (entered f.way b (says f.line)) n ⊎ ((z : Book) × Makes f.way (says f.line) b z × Any (whole z) n)))
+    × (Any (entered f.way b (line_entry f.line)) n ⊎ ((z : Book) × Makes f.way (line_entry f.line) b z × Any (whole z) n)))
+
+-- the book that a change would make
+abbrev pub WouldMake : Book → List ℕ → Book → Type 0
+WouldMake b text z = (f : Changing) × Says changes text f × Makes f.way (line_entry f.line) b z
 
 -- ---- a question
 
-abbrev pub askings : List ℕ → ℕ → ℕ → List Row
+abbrev pub askings : List ℕ → ℕ → ℕ → List TableRow
 askings text list work = row 1 (longest_line < length text) ∷ (written questions text ++ lent list work)
 
 -- ---- an opening: lines are put in one after another, and the first faulty line decides
 
 -- a line is refused by its text or by what it names
 abbrev pub LineRefuses : Book → List ℕ → ℕ → Type 0
-LineRefuses b l n = Any (written lines l) n ⊎ ((f : Sentence) × Says lines l f × Any (entered Add b (says f)) n)
+LineRefuses b l n = Any (written lines l) n ⊎ ((f : Sentence) × Says lines l f × Any (entered Add b (line_entry f)) n)
 
 -- the line that comes next is put in, and the rest follows
 pub record Puts (b : Book) (s : List ℕ) (z : Book) (rest : List ℕ) : Type 0 where
@@ -83,11 +96,11 @@ pub record Puts (b : Book) (s : List ℕ) (z : Book) (rest : List ℕ) : Type 0 
   pub sentence : Sentence
   pub said : Says lines text sentence
   pub fine : (n : ℕ) → LineRefuses b text n → ⊥
-  pub made : z ≡ put (says sentence) b
+  pub made : z ≡ put (line_entry sentence) b
 
 -- the line that comes next has this fault: nothing ends it, or this is its smallest number
-abbrev pub Faulty : Book → List ℕ → ℕ → Type 0
-Faulty b s n =
+abbrev pub FaultyLine : Book → List ℕ → ℕ → Type 0
+FaultyLine b s n =
     ((unbroken s ≡ true) × (s ≢ []) × (n ≡ 3))
     ⊎ ((l : List ℕ) × (rest : List ℕ) × Cut s l rest × LeastOf (LineRefuses b l) n)
 
@@ -98,7 +111,7 @@ pub data Feeds : Book → List ℕ → Book → Type 0 where
 
 -- the first faulty line, and its number, counted on from this one
 pub data Stops : ℕ → Book → List ℕ → (number line : ℕ) → Type 0 where
-  here : {k n : ℕ} {b : Book} {s : List ℕ} → Faulty b s n → Stops k b s n k
+  here : {k n : ℕ} {b : Book} {s : List ℕ} → FaultyLine b s n → Stops k b s n k
   later : {k n l : ℕ} {b : Book} {s rest : List ℕ} (m : Book) → Puts b s m rest → Stops (suc k) m rest n l → Stops k b s n l
 
 -- the text begins with the mark and a regime, and its lines follow
@@ -123,28 +136,13 @@ pub data OpeningRefused (text : List ℕ) (list work : ℕ) : (number line : ℕ
 abbrev pub line_of : ℕ → ℕ
 line_of n = cond (nat_le 15 n || (n == 1 || n == 7)) 0 1
 
--- the call is refused with this number, of all that apply the smallest, at this line
-abbrev pub Refused : Book → Call → (number line : ℕ) → Type 0
-Refused b (opening text list work) n l = OpeningRefused text list work n l
-Refused b (changing text list work) n l = LeastOf (ChangeRefuses b text list work) n × (l ≡ line_of n)
-Refused b (asking text list work) n l = Least (askings text list work) n × (l ≡ line_of n)
-Refused b (adding a u r) n l = Least (additions b a u r) n × (l ≡ 0)
-Refused b (removing a u r) n l = Least (removals b a u r) n × (l ≡ 0)
-
--- where nothing refuses it, what it makes of the book
-abbrev pub Done : Book → Call → Book → Type 0
-Done b (opening text list work) z = Reads text z × None (lent list work ++ whole z)
-Done b (changing text list work) z =
-    ((n : ℕ) → ChangeRefuses b text list work n → ⊥) × ((f : Changing) × Says changes text f × Makes f.way (says f.line) b z)
-Done b (asking text list work) z = None (askings text list work) × (z ≡ b)
-Done b (adding a u r) z = None (additions b a u r) × (z ≡ with_state (λ v q. b.state v q || pair u r v q) b)
-Done b (removing a u r) z = None (removals b a u r) × (z ≡ with_state (λ v q. b.state v q && not (pair u r v q)) b)
-
--- one call of a story: what it makes, or the book as it was
-abbrev pub Step : Book → Call → Book → Type 0
-Step b c z = Done b c z ⊎ (((n : ℕ) × (l : ℕ) × Refused b c n l) × (z ≡ b))
-
--- the book of a story
-abbrev pub Told : Book → List Call → Book → Type 0
-Told b [] z = z ≡ b
-Told b (c ∷ cs) z = (m : Book) × Step b c m × Told m cs z
+-- the call is refused with this number, of all that apply the one of least rank, at this line
+abbrev pub RefusedAt : Book → Call → (number line : ℕ) → Type 0
+RefusedAt b (opening text list work) n l = OpeningRefused text list work n l
+RefusedAt b (changing text list work) n l = LeastOf (ChangeRefuses b text list work) n × (l ≡ line_of n)
+RefusedAt b (asking text list work) n l = Least (askings text list work) n × (l ≡ line_of n)
+RefusedAt b (adding a u r) n l = Least (additions b a u r) n × (l ≡ 0)
+RefusedAt b (removing a u r) n l = Least (removals b a u r) n × (l ≡ 0)
+RefusedAt b (membership u r) n l = Least (lookups roles u r) n × (l ≡ 0)
+RefusedAt b (permission u p) n l = Least (lookups permissions u p) n × (l ≡ 0)
+RefusedAt b (saving text place) n l = Least (savings text place) n × (l ≡ 0)

@@ -5,7 +5,6 @@ use Rattle.meaning.specs.Measures as Measures
 use Rattle.meaning.specs.Membership.{User, Senior}
 use Rattle.meaning.specs.Rules.{aatu, aar, Policy}
 use Rattle.meaning.specs.Lists.{Nth, Apart}
-use Rattle.meaning.specs.Regimes.{AdminsAreNoTargets, AdminsAreAssigned, AssignableIsRevocable}
 use Rattle.meaning.specs.Requirements.{Requirement, Stands}
 use Rattle.meaning.specs.Rows.{Holder, FreeRow}
 use Rattle.lines.specs.Entries.{repeats}
@@ -13,18 +12,14 @@ use Rattle.book.specs.Book.{Book, Entry, pairs, gifts, edges, trusts, assigns, r
 
 -- the entry belongs to the other regime: `trust` under aar, `revoke` under aatu
 abbrev pub WrongRegime : Book → Entry → Type 0
-WrongRegime b (pairs u rs) = ⊥
-WrongRegime b (gifts n rs) = ⊥
-WrongRegime b (edges q rs) = ⊥
 WrongRegime b (trusts us) = b.policy.regime ≡ aar
-WrongRegime b (assigns rule rs) = ⊥
 WrongRegime b (revokes rule rs) = b.policy.regime ≡ aatu
-WrongRegime b (requires d) = ⊥
+WrongRegime b e = ⊥
 
 -- this is so of some number of a list
-abbrev pub Some : (ℕ → Type 0) → List ℕ → Type 0
-Some P [] = ⊥
-Some P (x ∷ xs) = P x ⊎ Some P xs
+abbrev pub AnyListed : (ℕ → Type 0) → List ℕ → Type 0
+AnyListed P [] = ⊥
+AnyListed P (x ∷ xs) = P x ⊎ AnyListed P xs
 
 -- the line's list names a number twice
 abbrev pub NamedTwice : Entry → Type 0
@@ -38,22 +33,20 @@ NamedTwice (requires d) = ⊥
 
 -- something that the entry names is there; something is not
 abbrev pub There : Book → Entry → Type 0
-There b (pairs u rs) = Some (λ r. T (b.state u r)) rs
-There b (gifts n rs) = Some (λ r. T (b.policy.gives n r)) rs
-There b (edges q rs) = Some (λ r. T (b.policy.edge q r)) rs
-There b (trusts us) = Some (λ u. T (b.policy.trusted u)) us
+There b (pairs u rs) = AnyListed (λ r. T (b.state u r)) rs
+There b (gifts n rs) = AnyListed (λ r. T (b.policy.gives n r)) rs
+There b (edges q rs) = AnyListed (λ r. T (b.policy.edge q r)) rs
+There b (trusts us) = AnyListed (λ u. T (b.policy.trusted u)) us
 There b (assigns rule rs) = (k : ℕ) × Nth k rule b.policy.assigns
 There b (revokes rule rs) = (k : ℕ) × Nth k rule b.policy.revokes
 There b (requires d) = (k : ℕ) × Nth k d b.requirements
 
 abbrev pub Missing : Book → Entry → Type 0
-Missing b (pairs u rs) = Some (λ r. T (not (b.state u r))) rs
-Missing b (gifts n rs) = Some (λ r. T (not (b.policy.gives n r))) rs
-Missing b (edges q rs) = Some (λ r. T (not (b.policy.edge q r))) rs
-Missing b (trusts us) = Some (λ u. T (not (b.policy.trusted u))) us
-Missing b (assigns rule rs) = There b (assigns rule rs) → ⊥
-Missing b (revokes rule rs) = There b (revokes rule rs) → ⊥
-Missing b (requires d) = There b (requires d) → ⊥
+Missing b (pairs u rs) = AnyListed (λ r. T (not (b.state u r))) rs
+Missing b (gifts n rs) = AnyListed (λ r. T (not (b.policy.gives n r))) rs
+Missing b (edges q rs) = AnyListed (λ r. T (not (b.policy.edge q r))) rs
+Missing b (trusts us) = AnyListed (λ u. T (not (b.policy.trusted u))) us
+Missing b e = There b e → ⊥
 
 -- all of these users are trusted
 abbrev pub AllTrusted : Policy → List User → Type 0
@@ -75,35 +68,21 @@ pub record NoRow (b : Book) (u : User) : Type 0 where
 -- rows, or the table of its kind, have no room for the entry
 abbrev pub NoRoom : Book → Entry → Type 0
 NoRoom b (pairs u rs) = NoRow b u
-NoRoom b (gifts n rs) = ⊥
-NoRoom b (edges q rs) = ⊥
 NoRoom b (trusts us) = Crowded b.policy us
 NoRoom b (assigns rule rs) = assign_rules ≤ length b.policy.assigns
 NoRoom b (revokes rule rs) = revoke_rules ≤ length b.policy.revokes
 NoRoom b (requires d) = Measures.requirements ≤ length b.requirements
+NoRoom b e = ⊥
 
 -- with these edges some role of the list would be senior to the role that is to be over it
 abbrev pub ClosesCircle : Book → Entry → Type 0
-ClosesCircle b (pairs u rs) = ⊥
-ClosesCircle b (gifts n rs) = ⊥
-ClosesCircle b (edges q rs) = Some (λ r. Senior (put (edges q rs) b).policy.edge r q) rs
-ClosesCircle b (trusts us) = ⊥
-ClosesCircle b (assigns rule rs) = ⊥
-ClosesCircle b (revokes rule rs) = ⊥
-ClosesCircle b (requires d) = ⊥
+ClosesCircle b (edges q rs) = AnyListed (λ r. Senior (put (edges q rs) b).policy.edge r q) rs
+ClosesCircle b e = ⊥
 
--- a board under aar breaks one of its three properties
-pub record AdminIsTarget (b : Book) : Type 0 where
+-- a board under aar breaks one of the properties that it keeps
+pub record Breached (b : Book) (Property : Type 0) : Type 0 where
   pub under_aar : b.policy.regime ≡ aar
-  pub broken : AdminsAreNoTargets b.policy → ⊥
-
-pub record AdminUnassigned (b : Book) : Type 0 where
-  pub under_aar : b.policy.regime ≡ aar
-  pub broken : AdminsAreAssigned b.policy b.state → ⊥
-
-pub record NeverRevoked (b : Book) : Type 0 where
-  pub under_aar : b.policy.regime ≡ aar
-  pub broken : AssignableIsRevocable b.policy → ⊥
+  pub broken : Property → ⊥
 
 -- the requirement with this number does not stand, and it is the first
 pub record Fails (b : Book) (k : ℕ) : Type 0 where

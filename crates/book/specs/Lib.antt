@@ -7,4 +7,5 @@ pub mod Refusals
 pub mod Calls
 pub mod Faults
 pub mod Entering
+pub mod Outcomes
 pub mod Stories

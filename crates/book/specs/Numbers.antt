@@ -1,36 +1,38 @@
--- The number of each cause to refuse a call, and all that a refusal tells.
+-- What a refusal tells: its number, its line, and of a requirement that fails which one it is and how many steps show it.
 use Rattle.std.specs.Prelude.{ℕ}
 use Rattle.book.specs.declared.refusal.Cause.{Cause}
 use Rattle.book.specs.declared.refusal.Cause.TheVariants.{TooLong, Mark, Syntax, Range, Measure, NotSemiStatic, TooShort, WrongRegime, ActorTrusted, AlreadyThere, NotThere, NoRule, Full, Circle, AdminIsTarget, AdminUnassigned, NeverRevoked, RequirementFails}
 
--- the number of the requirement that fails and the count of steps that show it stand behind the last one alone; elsewhere they are 0
-pub record Told : Type 0 where
+-- the line is 0 where the refusal is of none; requirement and steps are 0 where no requirement fails
+pub record Diagnostic : Type 0 where
   pub number : ℕ
+  pub line : ℕ
   pub requirement : ℕ
   pub steps : ℕ
 
-abbrev pub plain : ℕ → Told
-plain n = record { number = n; requirement = 0; steps = 0 }
+abbrev pub numbered : ℕ → ℕ → Diagnostic
+numbered n line = record { number = n; line = line; requirement = 0; steps = 0 }
 
-abbrev pub told : Cause → Told
-told TooLong = plain 1
-told Mark = plain 2
-told Syntax = plain 3
-told Range = plain 4
-told Measure = plain 5
-told NotSemiStatic = plain 6
-told TooShort = plain 7
-told WrongRegime = plain 8
-told ActorTrusted = plain 9
-told AlreadyThere = plain 10
-told NotThere = plain 11
-told NoRule = plain 12
-told Full = plain 13
-told Circle = plain 14
-told AdminIsTarget = plain 15
-told AdminUnassigned = plain 16
-told NeverRevoked = plain 17
-told (RequirementFails k n adds) = record { number = 18; requirement = k; steps = n }
+-- the number of each cause and the values beside it, at a line
+abbrev pub diagnostic : Cause → ℕ → Diagnostic
+diagnostic TooLong line = numbered 1 line
+diagnostic Mark line = numbered 2 line
+diagnostic Syntax line = numbered 3 line
+diagnostic Range line = numbered 4 line
+diagnostic Measure line = numbered 5 line
+diagnostic NotSemiStatic line = numbered 6 line
+diagnostic TooShort line = numbered 7 line
+diagnostic WrongRegime line = numbered 8 line
+diagnostic ActorTrusted line = numbered 9 line
+diagnostic AlreadyThere line = numbered 10 line
+diagnostic NotThere line = numbered 11 line
+diagnostic NoRule line = numbered 12 line
+diagnostic Full line = numbered 13 line
+diagnostic Circle line = numbered 14 line
+diagnostic AdminIsTarget line = numbered 15 line
+diagnostic AdminUnassigned line = numbered 16 line
+diagnostic NeverRevoked line = numbered 17 line
+diagnostic (RequirementFails k n adds) line = record { number = 18; line = line; requirement = k; steps = n }
 
 abbrev pub number_of : Cause → ℕ
-number_of c = (told c).number
+number_of c = (diagnostic c 0).number

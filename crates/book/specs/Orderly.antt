@@ -10,7 +10,7 @@ use Rattle.meaning.specs.Rows.{Holders}
 use Rattle.lines.specs.Lines.{Sentence, Fine}
 use Rattle.book.specs.Book.{Book, Entry, assigns, revokes, requires}
 use Rattle.book.specs.Grounds.{AllTrusted}
-use Rattle.book.specs.Says.{says}
+use Rattle.book.specs.Says.{line_entry}
 
 -- no two entries of the list are the same
 abbrev pub Once : {A : Type 0} → List A → Type 0
@@ -20,13 +20,7 @@ Once {A} xs = (j k : ℕ) (x : A) → j < k → Nth j x xs → Nth k x xs → �
 pub record Said (e : Entry) : Type 0 where
   pub line : Sentence
   pub fine : Fine line
-  pub names : says line ≡ e
-
-abbrev pub RuleSaid : AssignRule → Type 0
-RuleSaid rule = (rs : List Role) × Said (assigns rule rs)
-
-abbrev pub RevokeSaid : RevokeRule → Type 0
-RevokeSaid rule = (rs : List Role) × Said (revokes rule rs)
+  pub names : line_entry line ≡ e
 
 -- no role lies below itself on a path of edges
 abbrev pub NoCircle : Edges → Type 0
@@ -51,6 +45,6 @@ pub record Orderly (b : Book) : Type 0 where
   pub assigns_once : Once b.policy.assigns
   pub revokes_once : Once b.policy.revokes
   pub requirements_once : Once b.requirements
-  pub assigns_said : (k : ℕ) (rule : AssignRule) → Nth k rule b.policy.assigns → RuleSaid rule
-  pub revokes_said : (k : ℕ) (rule : RevokeRule) → Nth k rule b.policy.revokes → RevokeSaid rule
+  pub assigns_said : (k : ℕ) (rule : AssignRule) → Nth k rule b.policy.assigns → (rs : List Role) × Said (assigns rule rs)
+  pub revokes_said : (k : ℕ) (rule : RevokeRule) → Nth k rule b.policy.revokes → (rs : List Role) × Said (revokes rule rs)
   pub requirements_said : (k : ℕ) (d : Requirement) → Nth k d b.requirements → Said (requires d)

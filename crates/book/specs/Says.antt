@@ -2,16 +2,19 @@
 use Rattle.meaning.specs.Rules.{AssignRule, RevokeRule}
 use Rattle.meaning.specs.Requirements.{always, never}
 use Rattle.meaning.specs.Lists.{listed}
-use Rattle.lines.specs.Bodies.{Row, roles_in, users_in, Assigning, condition, question_of}
+use Rattle.lines.specs.Bodies.{roles_in, users_in, Assigning, condition, question_of, Sides, RoleListing}
 use Rattle.lines.specs.Lines.{Sentence, bodies}
 use Rattle.lines.specs.declared.keyword.Keyword.{Keyword}
 use Rattle.lines.specs.declared.keyword.Keyword.TheVariants.{Ua, Pa, Rh, Trust, Assign, Revoke, Always, Never, Possible, Necessary}
 use Rattle.book.specs.Book.{Entry, pairs, gifts, edges, trusts, assigns, revokes, requires}
+use Rattle.meaning.specs.Sets.{Question}
+use Rattle.meaning.specs.declared.terms.Kind.{Kind}
+use Rattle.meaning.specs.declared.terms.Kind.TheVariants as kind
 
 abbrev pub assign_rule : Assigning → AssignRule
 assign_rule x = record { admin = x.row.subject; condition = condition x.clause; targets = listed (roles_in x.row) }
 
-abbrev pub revoke_rule : Row → RevokeRule
+abbrev pub revoke_rule : RoleListing → RevokeRule
 revoke_rule x = record { admin = x.subject; targets = listed (roles_in x) }
 
 -- by its keyword; the two words of questions begin no line of a board, and stand here only since a sentence may have them
@@ -27,5 +30,10 @@ entry_of Never x = requires (never (question_of x))
 entry_of Possible x = requires (always (question_of x))
 entry_of Necessary x = requires (always (question_of x))
 
-abbrev pub says : Sentence → Entry
-says f = entry_of f.keyword f.body
+abbrev pub line_entry : Sentence → Entry
+line_entry f = entry_of f.keyword f.body
+
+-- the kind of a question, and what is asked
+pub data Poses : Sentence → Kind → Question → Type 0 where
+  possibly : {x : Sides} → Poses (record { keyword = Possible; body = x }) kind.Possible (question_of x)
+  necessarily : {x : Sides} → Poses (record { keyword = Necessary; body = x }) kind.Necessary (question_of x)

@@ -2,7 +2,7 @@
 ghost use Rattle.std.specs.Prelude.{◌≡◌};
 ghost use Rattle.book.specs.Numbers.{number_of};
 
-// Each case has one number; a failed requirement comes with its own number, the count of steps that show it and whether they add.
+/// Each case has one number; a failed requirement comes with its own number, the count of steps that show it and whether they add.
 #[derive(Clone, Copy)]
 pub enum Cause {
     TooLong,
@@ -29,7 +29,7 @@ pub enum Cause {
     },
 }
 
-// A cause, and the line of the text that it was found in; 0 where it is of no line.
+/// A cause, and the line of the text that it was found in; 0 where it is of no line.
 #[derive(Clone, Copy)]
 pub struct Refusal {
     pub cause: Cause,
@@ -37,7 +37,7 @@ pub struct Refusal {
 }
 
 impl Cause {
-    // The number of the refusal.
+    /// The number of the refusal.
     pub fn number(self) -> u8
         ensures { result ≡ number_of self }
     {

@@ -13,7 +13,6 @@ use Rattle.lines.specs.Lists.{number_of}
 use Rattle.tables.specs.declared.tables.Tables.{Tables}
 use Rattle.bounded.specs.Entries.{entries}
 use Rattle.tables.specs.Fresh.{nothing_assigned, new_policy}
-use Rattle.tables.specs.Rows.{Apart}
 use Rattle.tables.specs.View.{policy_of, state_of, requirements_of, assign_of, requirement_of}
 use Rattle.book.specs.Book.{Book, blank}
 use Rattle.book.specs.Grounds.{AllTrusted}
@@ -95,9 +94,8 @@ module _ (t : Tables) (g : Regime) (policy : policy_of t ≡ new_policy) (state 
   unfolding requirements_of
   no_requirements = requirements
 
-  pub blank_neat : Apart t → entries t.trusted ≡ [] → Neat (under g t)
-  blank_neat apart nobody = record {
-    apart = apart;
+  pub blank_neat : entries t.trusted ≡ [] → Neat (under g t)
+  blank_neat nobody = record {
     needs_whole = λ k e n. absurd (nothing_left assign_of (entries t.assigns) no_rules n);
     sides_whole = λ k e n. absurd (nothing_left requirement_of (entries t.requirements) no_requirements n);
     trusted_once = ap (λ us. repeats (map number_of us)) nobody;

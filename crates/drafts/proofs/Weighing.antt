@@ -52,4 +52,4 @@ regular t keeps aar e none deny-it =
 
 pub sound : (t : Tables) → ((Neat t → ⊥) → ⊥) → KeepsProperties t → (Sound t → ⊥) → ⊥
 sound t neat keeps deny-it = neat (λ n. regular t keeps (policy_of t).regime refl n.orderly.regime
-    (λ r. deny-it (record { apart = n.apart; conditions = n.needs_whole; regular = r })))
+    (λ r. deny-it (record { conditions = n.needs_whole; regular = r })))

@@ -19,7 +19,7 @@ pub struct Draft {
 }
 
 impl Draft {
-    // A regime and nothing else.
+    /// A draft with a regime and nothing else.
     pub fn blank(regime: Regime) -> Draft
         ensures { book_of result.tables ≡ empty_book (regime_of regime) }
     {
@@ -28,7 +28,7 @@ impl Draft {
         Draft { tables }
     }
 
-    // The same tables, sealed, where the regime's properties hold.
+    /// The same tables, sealed, where the regime's properties hold; else the cause of the smallest number among those that are broken. The draft stays as it is.
     pub fn weighed(&self) -> Result<Valid, Cause>
         ensures { Weighs self.now.tables result }
     {

@@ -8,8 +8,9 @@ use Rattle.rbac.specs.Roles.{roles_of, of_either, of_first}
 use Rattle.hierarchy.specs.Edges.{no_roles}
 use Rattle.tables.specs.declared.tables.Tables.{Tables}
 use Rattle.tables.specs.View.{policy_of, state_of, requirements_of}
-use Rattle.book.specs.Book.{with_policy, with_gives, plus, minus}
+use Rattle.book.specs.Book.{with_policy, plus, minus}
 use Rattle.drafts.specs.View.{book_of}
+use Rattle.book.proofs.Parts.{with_gives}
 
 abbrev pub with_gifts : Tables → List RoleSet → Tables
 with_gifts t xs = record {

@@ -6,7 +6,7 @@ use Rattle.lines.specs.declared.change.Change.{Change}
 use Rattle.lines.specs.declared.change.Extra.{Extra}
 use Rattle.lines.specs.Languages.{Language, Says, Unrefused}
 use Rattle.lines.specs.Languages.{Least as LeastGround}
-use Rattle.lines.specs.Lines.{Sentence, lines, Fine, Line}
+use Rattle.lines.specs.Lines.{Sentence, lines, Fine}
 use Rattle.texts.specs.Board.{Cut, BadLine, Comes}
 use Rattle.texts.specs.declared.faults.Fault.{Fault}
 use Rattle.texts.specs.declared.faults.Fault.TheVariants.{TooLong, Mark, InLine}
@@ -17,10 +17,12 @@ use Rattle.book.specs.Numbers.{number_of}
 use Rattle.book.specs.Faults.{cause_of, refusal_of}
 use Rattle.book.specs.Book.{Book, Entry}
 use Rattle.book.specs.Refusals.{Any, Least, written, entered}
-use Rattle.book.specs.Calls.{LineRefuses, Puts, Faulty}
+use Rattle.meaning.specs.Ranks.{rank}
+use Rattle.book.specs.Calls.{LineRefuses, Puts, FaultyLine}
 use Rattle.book.specs.Entering.{Entered, Readable}
-use Rattle.book.specs.Says.{says}
 use Rattle.book.proofs.Ladder.{above, here, skip}
+use Rattle.book.specs.Says.{line_entry}
+use Rattle.lines.specs.Changes.{Line}
 
 pub is_so : (b : Bool) → (b ≡ false → ⊥) → b ≡ true
 is_so true f = refl
@@ -43,8 +45,8 @@ least_written L s NotSemiStatic (h, less, every) = skip (less Syntax (lit< tt)) 
 
 -- what a line names is refused with a number from 8 to 14
 pub from_eight : (w : Way) (b : Book) (e : Entry) (n : ℕ) → Any (entered w b e) n → 7 < n
-from_eight Add b e n any = above 7 n (entered Add b e) (lit< tt, (lit< tt, (lit< tt, (lit< tt, tt)))) any
-from_eight Remove b e n any = above 7 n (entered Remove b e) (lit< tt, (lit< tt, (lit< tt, tt))) any
+from_eight Add b e n any = let h = above 7 n (entered Add b e) (lit< tt, (lit< tt, (lit< tt, (lit< tt, tt)))) any in omega (arith, h)
+from_eight Remove b e n any = let h = above 7 n (entered Remove b e) (lit< tt, (lit< tt, (lit< tt, tt))) any in omega (arith, h)
 
 pub to_fourteen : (w : Way) (b : Book) (e : Entry) (n : ℕ) → Any (entered w b e) n → n < 15
 to_fourteen Add b e n (inl (is, h)) = omega (arith, is)
@@ -80,7 +82,7 @@ module _ (l : List ℕ) (change : Change) (extra : Extra) (line : Line l (Ok cha
   readable = each line.1.some.0 line.1.some.1
 
   module _ (b z : Book) (s rest : List ℕ) (cut : Cut s l rest) where
-    pub puts : ((x : Readable change extra) → Entered Add b (says x.line) (Ok tt) z) → Puts b s z rest
+    pub puts : ((x : Readable change extra) → Entered Add b (line_entry x.line) (Ok tt) z) → Puts b s z rest
     puts done = record {
       text = l;
       cut = cut;
@@ -94,15 +96,15 @@ module _ (l : List ℕ) (change : Change) (extra : Extra) (line : Line l (Ok cha
         none n (inl any) = unwritten lines l line.0 n any
         none n (inr (f, said, any)) = (done (each f said)).0.none n any
 
-    pub faulty : (c : Cause) → ((x : Readable change extra) → Entered Add b (says x.line) (Err c) z) → Faulty b s (number_of c)
+    pub faulty : (c : Cause) → ((x : Readable change extra) → Entered Add b (line_entry x.line) (Err c) z) → FaultyLine b s (number_of c)
     faulty c done = inr (l, rest, cut, record { refuses = inr (line.1.some.0, line.1.some.1, (done readable).0.applies); least = least })
       where
-        least : (m : ℕ) → LineRefuses b l m → number_of c ≤ m
+        least : (m : ℕ) → LineRefuses b l m → rank (number_of c) ≤ rank m
         least m (inl any) = absurd (unwritten lines l line.0 m any)
         least m (inr (f, said, any)) = (done (each f said)).0.least m any
 
-    pub early : (c : Cause) → ((x : Readable change extra) → Entered Add b (says x.line) (Err c) z) → number_of c < 15
-    early c done = to_fourteen Add b (says readable.line) (number_of c) (done readable).0.applies
+    pub early : (c : Cause) → ((x : Readable change extra) → Entered Add b (line_entry x.line) (Err c) z) → number_of c < 15
+    early c done = to_fourteen Add b (line_entry readable.line) (number_of c) (done readable).0.applies
 
 -- the line that came
 pub came : (k : ℕ) (s after : List ℕ) (o : Option Change) (change : Change) (extra : Extra) → o ≡ Some change → Comes k s (Ok o) after extra
@@ -110,17 +112,17 @@ pub came : (k : ℕ) (s after : List ℕ) (o : Option Change) (change : Change) 
 came k s after o change extra is h = subst (λ (x : Option Change). Comes k s (Ok x) after extra) is h
 
 -- a line that is refused by how it is written
-pub bad_line : (b : Book) (s : List ℕ) (g : Ground) → BadLine s g → Faulty b s (number_of (cause_of g))
+pub bad_line : (b : Book) (s : List ℕ) (g : Ground) → BadLine s g → FaultyLine b s (number_of (cause_of g))
 bad_line b s g (inl (endless, more, e)) = inl (endless, more, ap (λ d. number_of (cause_of d)) e)
 bad_line b s g (inr (l, rest, cut, least)) = inr (l, rest, cut, record { refuses = inl (least_written lines l g least).applies; least = go })
   where
-    go : (m : ℕ) → LineRefuses b l m → number_of (cause_of g) ≤ m
+    go : (m : ℕ) → LineRefuses b l m → rank (number_of (cause_of g)) ≤ rank m
     go m (inl any) = (least_written lines l g least).least m any
-    go m (inr (f, said, any)) = let a = from_eight Add b (says f) m any in let c = ground_small g in omega (arith, a, c)
+    go m (inr (f, said, any)) = let a = from_eight Add b (line_entry f) m any in let c = ground_small g in omega (arith, a, c)
 
 -- a fault of the line that begins here
 pub faulty_line : (k : ℕ) (b : Book) (s after : List ℕ) (extra : Extra) (f : Fault) → Comes k s (Err f) after extra
-    → Faulty b s (number_of (refusal_of f).cause) × ((refusal_of f).line ≡ k) × (number_of (refusal_of f).cause < 15)
+    → FaultyLine b s (number_of (refusal_of f).cause) × ((refusal_of f).line ≡ k) × (number_of (refusal_of f).cause < 15)
 faulty_line k b s after extra TooLong h = absurd h
 faulty_line k b s after extra Mark h = absurd h
 faulty_line k b s after extra (InLine g m) (e, bad) = (bad_line b s g bad, e, let l = ground_small g in omega (arith, l))

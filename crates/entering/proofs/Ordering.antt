@@ -9,10 +9,11 @@ use Rattle.hierarchy.specs.declared.edges.Hierarchy.{Hierarchy}
 use Rattle.hierarchy.specs.Edges.{edges_of, with_edges, without_edges}
 use Rattle.tables.specs.declared.tables.Tables.{Tables}
 use Rattle.tables.specs.View.{policy_of, state_of, requirements_of}
-use Rattle.book.specs.Book.{plus, minus, with_policy, with_edges as policy_with}
-use Rattle.book.specs.Grounds.{Some}
+use Rattle.book.specs.Book.{plus, minus, with_policy}
 use Rattle.drafts.specs.View.{book_of}
 use Rattle.entering.proofs.Naming.{some_gives, some_at}
+use Rattle.book.specs.Grounds.{AnyListed}
+use Rattle.book.proofs.Parts.{with_edges as policy_with}
 
 abbrev pub with_hierarchy : Tables → Hierarchy → Tables
 with_hierarchy t h = record {
@@ -60,13 +61,13 @@ module _ (edge : Edges) (q : ℕ) (rs : List ℕ) where
       (either (edge a b) (eqb a q && listed rs b) d)
 
   module _ (roles : ℕ → Bool) (set : roles ≡ listed rs) (reached : Bool) (reaches : Decides reached (Member edge roles q)) where
-    pub closes : reached ≡ true → Some (λ r. Senior (plus edge q rs) r q) rs
+    pub closes : reached ≡ true → AnyListed (λ r. Senior (plus edge q rs) r q) rs
     closes e = let (r, s, l) = reaches.0 e in some_at (λ r. Senior (plus edge q rs) r q) rs r (in_list r l) (longer s)
       where
         in_list : (r : ℕ) → T (roles r) → T (listed rs r)
         in_list r l = subst (λ (f : ℕ → Bool). T (f r)) set l
 
-    pub stays_straight : reached ≡ false → Some (λ r. Senior (plus edge q rs) r q) rs → ⊥
+    pub stays_straight : reached ≡ false → AnyListed (λ r. Senior (plus edge q rs) r q) rs → ⊥
     stays_straight e h =
         let (r, l, s) = some_gives (λ r. Senior (plus edge q rs) r q) rs h in
         both_ways reached e (reaches.1 (r, before s refl, subst⁻¹ (λ (f : ℕ → Bool). T (f r)) set l))

@@ -1,5 +1,6 @@
 -- What other requirements make of the book.
 use Rattle.std.proofs.Common.{◌≡◌, ℕ, ◌+◌, ◌⊎◌, List, [], ◌∷◌, ◌++◌, map, Option, Ok, Err, Result, refl, ap}
+use Rattle.meaning.specs.Measures.{requirements as requirement_places}
 use Rattle.texts.specs.declared.faults.Way.TheVariants.{Add}
 use Rattle.meaning.specs.Lists.{Nth}
 use Rattle.meaning.specs.Requirements.{Requirement}
@@ -18,7 +19,7 @@ use Rattle.entering.specs.Laid.{SidesWhole, Laid}
 use Rattle.entering.proofs.Places.{told}
 use Rattle.entering.proofs.Refusing.{added, full}
 
-abbrev pub with_entries : Tables → Bounded RequirementEntry 16 → Tables
+abbrev pub with_entries : Tables → Bounded RequirementEntry requirement_places → Tables
 with_entries t xs = record {
   regime = t.regime;
   rows = t.rows;
@@ -34,11 +35,11 @@ pub requirements_are : (t : Tables) → requirements_of t ≡ map requirement_of
 unfolding requirements_of
 requirements_are t = refl
 
-requirements_book : (t : Tables) (z : Bounded RequirementEntry 16) (rules : List Requirement) → map requirement_of (entries z) ≡ rules → book_of (with_entries t z) ≡ with_requirements rules (book_of t)
+requirements_book : (t : Tables) (z : Bounded RequirementEntry requirement_places) (rules : List Requirement) → map requirement_of (entries z) ≡ rules → book_of (with_entries t z) ≡ with_requirements rules (book_of t)
 unfolding policy_of state_of requirements_of
 requirements_book t z rules is = ap (λ l. with_requirements l (book_of t)) is
 
-module _ (t : Tables) (e : RequirementEntry) (z : Bounded RequirementEntry 16) where
+module _ (t : Tables) (e : RequirementEntry) (z : Bounded RequirementEntry requirement_places) where
   pub requirements_pushed : (WrongRegime (book_of t) (required (requirement_of e)) → ⊥) → (There (book_of t) (required (requirement_of e)) ⊎ NamedTwice (required (requirement_of e)) → ⊥)
       → (done : Result (Unit {0}) Full) → Pushed t.requirements e done z → Entered Add (book_of t) (required (requirement_of e)) (told done) (book_of (with_entries t z))
   unfolding requirements_of
@@ -53,5 +54,5 @@ module _ (t : Tables) (e : RequirementEntry) (z : Bounded RequirementEntry 16) w
   unfolding requirements_of
   requirements_removed i n taken r = (map requirement_of (entries z), taken_out requirement_of t.requirements z e i n taken r, requirements_book t z (map requirement_of (entries z)) refl)
 
-pub requirements_laid : (t : Tables) (z : Bounded RequirementEntry 16) → ((k : ℕ) (x : RequirementEntry) → Nth k x (entries z) → SidesWhole x) → Laid t → Laid (with_entries t z)
-requirements_laid t z sides h = record { apart = h.apart; needs_whole = h.needs_whole; sides_whole = sides; trusted_once = h.trusted_once }
+pub requirements_laid : (t : Tables) (z : Bounded RequirementEntry requirement_places) → ((k : ℕ) (x : RequirementEntry) → Nth k x (entries z) → SidesWhole x) → Laid t → Laid (with_entries t z)
+requirements_laid t z sides h = record { needs_whole = h.needs_whole; sides_whole = sides; trusted_once = h.trusted_once }

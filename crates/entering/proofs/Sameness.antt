@@ -10,7 +10,7 @@ use Rattle.meaning.specs.Requirements.{Requirement, always, never}
 use Rattle.rbac.specs.declared.sets.RoleSet.{RoleSet}
 use Rattle.rbac.specs.Roles.{roles_of}
 use Rattle.rbac.proofs.Masks.{roles_low}
-use Rattle.trees.specs.Reading.{Nodes, listed}
+use Rattle.trees.specs.Reading.{Nodes, nodes_in}
 use Rattle.trees.specs.Trees.{decode}
 use Rattle.tables.specs.contracts.entries.Demand.{the_type}
 use Rattle.tables.specs.declared.entries.Demand.{Demand}
@@ -20,9 +20,9 @@ use Rattle.tables.specs.declared.entries.Needs.TheVariants.{Everybody, Roles}
 use Rattle.tables.specs.declared.entries.AssignEntry.{AssignEntry}
 use Rattle.tables.specs.declared.entries.RevokeEntry.{RevokeEntry}
 use Rattle.tables.specs.declared.entries.RequirementEntry.{RequirementEntry}
-use Rattle.tables.specs.View.{or_nobody, set_of, condition_of, assign_of, revoke_of, question_of, demanded, requirement_of}
+use Rattle.tables.specs.View.{or_nobody, set_of, condition_of, assign_of, revoke_of, demanded, requirement_of, stored_question}
 use Rattle.trees.specs.Reading.{postfix}
-use Rattle.soundness.specs.Valid.{Whole, roles_alone}
+use Rattle.soundness.specs.Valid.{Whole, only_roles}
 use Rattle.drafts.proofs.Sets.{set_is}
 use Rattle.drafts.specs.Neat.{OfSet}
 use Rattle.entering.specs.Laid.{SidesWhole}
@@ -40,10 +40,10 @@ word_says a b e = ap (λ w. roles_of (record { word = w })) e
 
 -- ---- sets
 
-same_nodes : (m n : Nodes) → OfSet m → OfSet n → set_of m ≡ set_of n → listed m ≡ listed n
+same_nodes : (m n : Nodes) → OfSet m → OfSet n → set_of m ≡ set_of n → nodes_in m ≡ nodes_in n
 same_nodes m n (x, p) (y, q) e = p ∙ ap postfix (sym (set_is m x p) ∙ e ∙ set_is n y q) ∙ sym q
 
-nodes_say : (m n : Nodes) → listed m ≡ listed n → set_of m ≡ set_of n
+nodes_say : (m n : Nodes) → nodes_in m ≡ nodes_in n → set_of m ≡ set_of n
 nodes_say m n e = ap (λ ns. or_nobody (decode ns)) e
 
 -- ---- conditions
@@ -81,7 +81,7 @@ never_everybody nobody e = let k : ◌≡◌ {A = ℕ} 1 0 = ap kind_of e in ome
 never_everybody (union x y) e = let k : ◌≡◌ {A = ℕ} 3 0 = ap kind_of e in omega arith
 never_everybody (intersection x y) e = let k : ◌≡◌ {A = ℕ} 2 0 = ap kind_of e in omega arith
 
-same_sets : (x z : UserSet) → roles_alone x ≡ true → roles_alone z ≡ true → as_condition x ≡ as_condition z → x ≡ z
+same_sets : (x z : UserSet) → only_roles x ≡ true → only_roles z ≡ true → as_condition x ≡ as_condition z → x ≡ z
 same_sets (holders n) z a b e = absurd (clash a)
 same_sets (only u) z a b e = absurd (clash a)
 same_sets nobody z a b e = absurd (clash a)
@@ -98,19 +98,19 @@ same_sets (members r) (members r') a b e = ap members (ap role_in e)
 same_sets (members r) (union x' y') a b e = let k : ◌≡◌ {A = ℕ} 1 3 = ap kind_of e in absurd (omega arith)
 same_sets (members r) (intersection x' y') a b e = let k : ◌≡◌ {A = ℕ} 1 2 = ap kind_of e in absurd (omega arith)
 same_sets (union x y) (members r') a b e = let k : ◌≡◌ {A = ℕ} 3 1 = ap kind_of e in absurd (omega arith)
-same_sets (union x y) (union x' y') a b e = let p = and_parts (roles_alone x) (roles_alone y) a in let q = and_parts (roles_alone x') (roles_alone y') b in ap₂ union (same_sets x x' p.0 q.0 (ap left_of e)) (same_sets y y' p.1 q.1 (ap right_of e))
+same_sets (union x y) (union x' y') a b e = let p = and_parts (only_roles x) (only_roles y) a in let q = and_parts (only_roles x') (only_roles y') b in ap₂ union (same_sets x x' p.0 q.0 (ap left_of e)) (same_sets y y' p.1 q.1 (ap right_of e))
 same_sets (union x y) (intersection x' y') a b e = let k : ◌≡◌ {A = ℕ} 3 2 = ap kind_of e in absurd (omega arith)
 same_sets (intersection x y) (members r') a b e = let k : ◌≡◌ {A = ℕ} 2 1 = ap kind_of e in absurd (omega arith)
 same_sets (intersection x y) (union x' y') a b e = let k : ◌≡◌ {A = ℕ} 2 3 = ap kind_of e in absurd (omega arith)
-same_sets (intersection x y) (intersection x' y') a b e = let p = and_parts (roles_alone x) (roles_alone y) a in let q = and_parts (roles_alone x') (roles_alone y') b in ap₂ intersection (same_sets x x' p.0 q.0 (ap left_of e)) (same_sets y y' p.1 q.1 (ap right_of e))
+same_sets (intersection x y) (intersection x' y') a b e = let p = and_parts (only_roles x) (only_roles y) a in let q = and_parts (only_roles x') (only_roles y') b in ap₂ intersection (same_sets x x' p.0 q.0 (ap left_of e)) (same_sets y y' p.1 q.1 (ap right_of e))
 
 pub not_everybody : (a b : Needs) (n : Nodes) → a ≡ Everybody → b ≡ Roles n → condition_of a ≡ condition_of b → ⊥
 not_everybody a b n p q e = never_everybody (set_of n) (sym (sym (ap condition_of p) ∙ e ∙ ap condition_of q))
 
-same_roles_asked : (m n : Nodes) → Whole (Roles m) → Whole (Roles n) → as_condition (set_of m) ≡ as_condition (set_of n) → listed m ≡ listed n
+same_roles_asked : (m n : Nodes) → Whole (Roles m) → Whole (Roles n) → as_condition (set_of m) ≡ as_condition (set_of n) → nodes_in m ≡ nodes_in n
 same_roles_asked m n (x, p, a) (y, q, b) e = p ∙ ap postfix (same_sets x y a b (ap as_condition (sym (set_is m x p)) ∙ e ∙ ap as_condition (set_is n y q))) ∙ sym q
 
-pub asks_same : (a b : Needs) (m n : Nodes) → a ≡ Roles m → b ≡ Roles n → Whole a → Whole b → (told : Bool) → Decides told (listed m ≡ listed n) → Decides told (condition_of a ≡ condition_of b)
+pub asks_same : (a b : Needs) (m n : Nodes) → a ≡ Roles m → b ≡ Roles n → Whole a → Whole b → (told : Bool) → Decides told (nodes_in m ≡ nodes_in n) → Decides told (condition_of a ≡ condition_of b)
 asks_same a b m n p q f g told d = (
   λ e. ap condition_of p ∙ ap as_condition (nodes_say m n (d.0 e)) ∙ sym (ap condition_of q),
   λ e. d.1 (same_roles_asked m n (subst Whole p f) (subst Whole q g) (sym (ap condition_of p) ∙ e ∙ ap condition_of q)),
@@ -174,15 +174,15 @@ itself Always = refl
 itself Never = refl
 
 pub same_requirements : (a b : RequirementEntry) → SidesWhole a → SidesWhole b → (demands larger smaller : Bool) → demands ≡ sameb the_type a.demand b.demand
-    → Decides larger (listed a.larger ≡ listed b.larger) → Decides smaller (listed a.smaller ≡ listed b.smaller)
+    → Decides larger (nodes_in a.larger ≡ nodes_in b.larger) → Decides smaller (nodes_in a.smaller ≡ nodes_in b.smaller)
     → Decides ((demands && larger) && smaller) (requirement_of a ≡ requirement_of b)
 same_requirements a b f g demands larger smaller is l s = (
   λ e. let p = and_parts (demands && larger) smaller e in
       let q = and_parts demands larger p.0 in
-      ap (λ d. demanded d (question_of a.larger a.smaller)) (same_demand a.demand b.demand (sym is ∙ q.0))
+      ap (λ d. demanded d (stored_question a.larger a.smaller)) (same_demand a.demand b.demand (sym is ∙ q.0))
       ∙ ap₂ {C = Requirement} (λ x y. demanded b.demand (record { larger = x; smaller = y })) (nodes_say a.larger b.larger (l.0 q.1)) (nodes_say a.smaller b.smaller (s.0 p.1)),
   λ e. let d : a.demand ≡ b.demand = sym (demand_is a.demand _) ∙ ap demand_in e ∙ demand_is b.demand _ in
-      let q : question_of a.larger a.smaller ≡ question_of b.larger b.smaller = sym (question_is a.demand _) ∙ ap question_in e ∙ question_is b.demand _ in
+      let q : stored_question a.larger a.smaller ≡ stored_question b.larger b.smaller = sym (question_is a.demand _) ∙ ap question_in e ∙ question_is b.demand _ in
       and_from (demands && larger) smaller
       (and_from demands larger
       (is ∙ ap (λ x. sameb the_type x b.demand) d ∙ itself b.demand)

@@ -6,6 +6,7 @@ use Rattle.std.specs.List.{filter, list_any, list_all}
 use Rattle.std.proofs.lemmas.Bool.{both_ways, cases_eq, cases_lt, and_parts, and_from}
 use Rattle.std.proofs.lemmas.List.{take_all, length-take-le, take_more}
 use lib.Seq.{take-append-le}
+use Rattle.meaning.specs.Measures.{trusted_users}
 use Rattle.meaning.specs.Lists.{listed, Apart}
 use Rattle.meaning.proofs.Tests.{either, or_left, or_right, first, as_true, as_test, listed_either}
 use Rattle.theory.proofs.Turns.{few}
@@ -15,7 +16,7 @@ use Rattle.lines.specs.Lists.{number_of}
 use Rattle.bounded.specs.declared.bounded.Bounded.{Bounded}
 use Rattle.bounded.specs.Entries.{entries}
 use Rattle.bounded.proofs.Listing.{few as few_places}
-use Rattle.tables.specs.View.{names}
+use Rattle.tables.specs.View.{is_among}
 
 -- ---- numbers
 
@@ -65,7 +66,7 @@ no_more xs ys a f = few xs ys a (all_in xs ys f)
 
 -- ---- users
 
-pub names_listed : (us : List User) (k : ℕ) → names us k ≡ listed (map number_of us) k
+pub names_listed : (us : List User) (k : ℕ) → is_among us k ≡ listed (map number_of us) k
 names_listed [] k = refl
 names_listed (u ∷ us) k = ap (λ b. eqb k u.number || b) (names_listed us k)
 
@@ -75,7 +76,7 @@ turned_round a b = ⊎_elim
     (λ (n : a ≡ b → ⊥). ne_eqb a b n ∙ sym (ne_eqb b a (λ e. n (sym e))))
     (cases_eq a b)
 
-pub names_any : (us : List User) (k : ℕ) → list_any (λ (u : User). eqb u.number k) us ≡ names us k
+pub names_any : (us : List User) (k : ℕ) → list_any (λ (u : User). eqb u.number k) us ≡ is_among us k
 names_any [] k = refl
 names_any (u ∷ us) k = ap₂ ◌||◌ (turned_round u.number k) (names_any us k)
 
@@ -103,9 +104,9 @@ all_from f (u ∷ us) h = and_from (f u.number) (list_all (λ (u : User). f u.nu
     (as_true (f u.number) (h u.number (or_left (eqb u.number u.number) (listed (map number_of us) u.number) (eqb_refl u.number))))
     (all_from f us (λ k t. h k (or_right (eqb k u.number) (listed (map number_of us) k) t)))
 
-pub names_both : (us vs : List User) (k : ℕ) → names (us ++ vs) k ≡ (names us k || names vs k)
+pub names_both : (us vs : List User) (k : ℕ) → is_among (us ++ vs) k ≡ (is_among us k || is_among vs k)
 names_both [] vs k = refl
-names_both (u ∷ us) vs k = ap (λ b. eqb k u.number || b) (names_both us vs k) ∙ regroup (eqb k u.number) (names us k) (names vs k)
+names_both (u ∷ us) vs k = ap (λ b. eqb k u.number || b) (names_both us vs k) ∙ regroup (eqb k u.number) (is_among us k) (is_among vs k)
   where
     regroup : (a b c : Bool) → (a || (b || c)) ≡ ((a || b) || c)
     regroup true b c = refl
@@ -124,7 +125,7 @@ module _ (set : ℕ → Bool) where
       go true l = omega (arith, l)
       go false l = omega (arith, l)
 
-  pub names_outside : (us : List User) (k : ℕ) → names (outside us) k ≡ (names us k && not (set k))
+  pub names_outside : (us : List User) (k : ℕ) → is_among (outside us) k ≡ (is_among us k && not (set k))
   names_outside [] k = refl
   names_outside (u ∷ us) k = go (names_outside us k) (set u.number) refl
     where
@@ -145,9 +146,9 @@ module _ (set : ℕ → Bool) where
       out true b false f = absurd (both_ways false refl (f tt))
       out false b c f = refl
 
-      go : names (outside us) k ≡ (names us k && not (set k)) → (b : Bool) → set u.number ≡ b → names (cond (not b) (u ∷ outside us) (outside us)) k ≡ (names (u ∷ us) k && not (set k))
-      go rest true e = rest ∙ out (eqb k u.number) (names us k) (set k) (λ t. same t ∙ e)
-      go rest false e = ap (λ b. eqb k u.number || b) rest ∙ left (eqb k u.number) (names us k) (set k) (λ t. same t ∙ e)
+      go : is_among (outside us) k ≡ (is_among us k && not (set k)) → (b : Bool) → set u.number ≡ b → is_among (cond (not b) (u ∷ outside us) (outside us)) k ≡ (is_among (u ∷ us) k && not (set k))
+      go rest true e = rest ∙ out (eqb k u.number) (is_among us k) (set k) (λ t. same t ∙ e)
+      go rest false e = ap (λ b. eqb k u.number || b) rest ∙ left (eqb k u.number) (is_among us k) (set k) (λ t. same t ∙ e)
 
   pub outside_once : (us : List User) → repeats (map number_of us) ≡ false → repeats (map number_of (outside us)) ≡ false
   outside_once [] e = refl
@@ -156,7 +157,7 @@ module _ (set : ℕ → Bool) where
       still : T (listed (map number_of (outside us)) u.number) → T (listed (map number_of us) u.number)
       still t =
           subst T (names_listed us u.number)
-          (first (names us u.number) (not (set u.number)) (subst T (names_outside us u.number) (subst⁻¹ T (names_listed (outside us) u.number) t)))
+          (first (is_among us u.number) (not (set u.number)) (subst T (names_outside us u.number) (subst⁻¹ T (names_listed (outside us) u.number) t)))
 
       go : (repeats (map number_of us) ≡ false → repeats (map number_of (outside us)) ≡ false) → (b : Bool) → repeats (map number_of (cond (not b) (u ∷ outside us) (outside us))) ≡ false
       go rest true = rest (neither (listed (map number_of us) u.number) (repeats (map number_of us)) e).1
@@ -183,46 +184,46 @@ module _ (set : ℕ → Bool) where
 
 -- ---- as far as there is room
 
-pub take_kept : (us : List User) (u : User) → take 32 (take 32 us ++ u ∷ []) ≡ take 32 (us ++ u ∷ [])
+pub take_kept : (us : List User) (u : User) → take trusted_users (take trusted_users us ++ u ∷ []) ≡ take trusted_users (us ++ u ∷ [])
 take_kept us u = ⊎_elim
-    (λ (k : length us < 32). ap (λ l. take 32 (l ++ u ∷ [])) (take_all 32 us (omega arith)))
-    (λ (k : 32 ≤ length us).
-    let l = length-take-le 32 us k in
-    take-append-le 32 (take 32 us) (u ∷ []) (omega arith) ∙ take_all 32 (take 32 us) (omega arith) ∙ sym (take-append-le 32 us (u ∷ []) k))
-    (cases_lt (length us) 32)
+    (λ (k : length us < trusted_users). ap (λ l. take trusted_users (l ++ u ∷ [])) (take_all trusted_users us (omega arith)))
+    (λ (k : trusted_users ≤ length us).
+    let l = length-take-le trusted_users us k in
+    take-append-le trusted_users (take trusted_users us) (u ∷ []) (omega arith) ∙ take_all trusted_users (take trusted_users us) (omega arith) ∙ sym (take-append-le trusted_users us (u ∷ []) k))
+    (cases_lt (length us) trusted_users)
 
 append_none : (us : List User) → us ++ [] ≡ us
 append_none [] = refl
 append_none (u ∷ us) = ap (λ l. u ∷ l) (append_none us)
 
-pub none_more : (list : Bounded User 32) → entries list ≡ take 32 (entries list ++ [])
-none_more list = sym (take_all 32 (entries list ++ []) (let l = few_places list in omega (arith, l, length-append (entries list) [])) ∙ append_none (entries list))
+pub none_more : (list : Bounded User trusted_users) → entries list ≡ take trusted_users (entries list ++ [])
+none_more list = sym (take_all trusted_users (entries list ++ []) (let l = few_places list in omega (arith, l, length-append (entries list) [])) ∙ append_none (entries list))
 
 -- one user more of a list that is put last
-pub one_more : (us vs : List User) (i : ℕ) (d : User) → i < length vs → (list z : Bounded User 32) (u : User) → entries list ≡ take 32 (us ++ take i vs) → entries z ≡ take 32 (entries list ++ u ∷ []) → u ≡ get_or vs i d
-    → entries z ≡ take 32 (us ++ take (i + 1) vs)
+pub one_more : (us vs : List User) (i : ℕ) (d : User) → i < length vs → (list z : Bounded User trusted_users) (u : User) → entries list ≡ take trusted_users (us ++ take i vs) → entries z ≡ take trusted_users (entries list ++ u ∷ []) → u ≡ get_or vs i d
+    → entries z ≡ take trusted_users (us ++ take (i + 1) vs)
 one_more us vs i d l list z u before after is =
     after
-    ∙ ap (λ ws. take 32 (ws ++ u ∷ [])) before
+    ∙ ap (λ ws. take trusted_users (ws ++ u ∷ [])) before
     ∙ take_kept (us ++ take i vs) u
-    ∙ ap (take 32) (regroup us (take i vs) u ∙ ap (λ w. us ++ (take i vs ++ w ∷ [])) is ∙ ap (λ ws. us ++ ws) (sym (take_more vs i d l)))
+    ∙ ap (take trusted_users) (regroup us (take i vs) u ∙ ap (λ w. us ++ (take i vs ++ w ∷ [])) is ∙ ap (λ ws. us ++ ws) (sym (take_more vs i d l)))
   where
     regroup : (xs ys : List User) (c : User) → (xs ++ ys) ++ c ∷ [] ≡ xs ++ (ys ++ c ∷ [])
     regroup [] ys c = refl
     regroup (x ∷ xs) ys c = ap (λ l. x ∷ l) (regroup xs ys c)
 
 -- one user more of a list that is gone through, who is kept, or left out
-module _ (set : ℕ → Bool) (us : List User) (i : ℕ) (d : User) (l : i < length us) (list : Bounded User 32) where
-  pub kept_user : (z : Bounded User 32) (u : User) → entries list ≡ take 32 (outside set (take i us)) → entries z ≡ take 32 (entries list ++ u ∷ []) → u ≡ get_or us i d → set (get_or us i d).number ≡ false
-      → entries z ≡ take 32 (outside set (take (i + 1) us))
+module _ (set : ℕ → Bool) (us : List User) (i : ℕ) (d : User) (l : i < length us) (list : Bounded User trusted_users) where
+  pub kept_user : (z : Bounded User trusted_users) (u : User) → entries list ≡ take trusted_users (outside set (take i us)) → entries z ≡ take trusted_users (entries list ++ u ∷ []) → u ≡ get_or us i d → set (get_or us i d).number ≡ false
+      → entries z ≡ take trusted_users (outside set (take (i + 1) us))
   kept_user z u before after is out =
       after
-      ∙ ap (λ ws. take 32 (ws ++ u ∷ [])) before
+      ∙ ap (λ ws. take trusted_users (ws ++ u ∷ [])) before
       ∙ take_kept (outside set (take i us)) u
-      ∙ ap (λ w. take 32 (outside set (take i us) ++ w ∷ [])) is
-      ∙ ap (take 32) (sym (ap (outside set) (take_more us i d l) ∙ outside_more set (take i us) (get_or us i d) ∙ ap (λ b. cond (not b) (outside set (take i us) ++ get_or us i d ∷ []) (outside set (take i us))) out))
+      ∙ ap (λ w. take trusted_users (outside set (take i us) ++ w ∷ [])) is
+      ∙ ap (take trusted_users) (sym (ap (outside set) (take_more us i d l) ∙ outside_more set (take i us) (get_or us i d) ∙ ap (λ b. cond (not b) (outside set (take i us) ++ get_or us i d ∷ []) (outside set (take i us))) out))
 
-  pub left_user : entries list ≡ take 32 (outside set (take i us)) → set (get_or us i d).number ≡ true → entries list ≡ take 32 (outside set (take (i + 1) us))
+  pub left_user : entries list ≡ take trusted_users (outside set (take i us)) → set (get_or us i d).number ≡ true → entries list ≡ take trusted_users (outside set (take (i + 1) us))
   left_user before out =
       before
-      ∙ ap (take 32) (sym (ap (outside set) (take_more us i d l) ∙ outside_more set (take i us) (get_or us i d) ∙ ap (λ b. cond (not b) (outside set (take i us) ++ get_or us i d ∷ []) (outside set (take i us))) out))
+      ∙ ap (take trusted_users) (sym (ap (outside set) (take_more us i d l) ∙ outside_more set (take i us) (get_or us i d) ∙ ap (λ b. cond (not b) (outside set (take i us) ++ get_or us i d ∷ []) (outside set (take i us))) out))

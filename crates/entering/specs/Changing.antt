@@ -7,16 +7,16 @@ use Rattle.book.specs.Numbers.{number_of}
 use Rattle.book.specs.Book.{Book}
 use Rattle.book.specs.Calls.{LeastOf, ChangeRefuses, Makes, line_of}
 use Rattle.book.specs.Refusals.{Any, whole}
-use Rattle.book.specs.Says.{says}
 use Rattle.drafts.specs.declared.draft.Draft.{Draft}
 use Rattle.drafts.specs.View.{book_of}
 use Rattle.entering.specs.Opening.{Early}
+use Rattle.book.specs.Says.{line_entry}
 
 -- the text is a change that makes this book, and nothing but what a whole board is weighed for can refuse it
 pub record Makeable (b : Book) (text : List ℕ) (list work : ℕ) (z : Book) : Type 0 where
   pub change : Changing
   pub said : Says changes text change
-  pub makes : Makes change.way (says change.line) b z
+  pub makes : Makes change.way (line_entry change.line) b z
   pub left : (n : ℕ) → ChangeRefuses b text list work n → Any (whole z) n
 
 -- the draft as the change makes it; else the least number that refuses the change, whatever a whole board is weighed for

@@ -7,7 +7,6 @@ use Rattle.tables.specs.declared.entries.AssignEntry.{AssignEntry}
 use Rattle.tables.specs.declared.entries.RequirementEntry.{RequirementEntry}
 use Rattle.tables.specs.declared.tables.Tables.{Tables}
 use Rattle.bounded.specs.Entries.{entries}
-use Rattle.tables.specs.Rows.{Apart}
 use Rattle.soundness.specs.Valid.{Whole}
 use Rattle.drafts.specs.Neat.{OfSet}
 
@@ -24,7 +23,6 @@ AllNeedsWhole t = (k : ℕ) (e : AssignEntry) → Nth k e (entries t.assigns) �
 
 -- all that good order asks for besides what the book has
 pub record Laid (t : Tables) : Type 0 where
-  pub apart : Apart t
   pub needs_whole : AllNeedsWhole t
   pub sides_whole : AllSidesWhole t
   pub trusted_once : repeats (map number_of (entries t.trusted)) ≡ false

@@ -5,7 +5,7 @@ use Rattle.drafts.specs.View.{book_of}
 use Rattle.book.specs.declared.refusal.Refusal.{Refusal}
 use Rattle.book.specs.Numbers.{number_of}
 use Rattle.book.specs.Book.{Book}
-use Rattle.book.specs.Calls.{Puts, Faulty, Feeds, Stops, Reads, OpeningRefused}
+use Rattle.book.specs.Calls.{Puts, Feeds, Stops, Reads, OpeningRefused, FaultyLine}
 
 -- the refusal is none of those that only a whole board is weighed for
 abbrev pub Early : Refusal → Type 0
@@ -15,7 +15,7 @@ Early e = number_of e.cause < 15
 abbrev pub OneLine : ℕ → List ℕ → Book → Result Bool Refusal → List ℕ → Book → Type 0
 OneLine k s b (Ok true) rest z = Puts b s z rest
 OneLine k s b (Ok false) rest z = (s ≡ []) × (z ≡ b)
-OneLine k s b (Err e) rest z = Faulty b s (number_of e.cause) × (e.line ≡ k) × Early e
+OneLine k s b (Err e) rest z = FaultyLine b s (number_of e.cause) × (e.line ≡ k) × Early e
 
 -- a line that was put in is counted
 abbrev pub Counted : Result Bool Refusal → ℕ → ℕ → Type 0

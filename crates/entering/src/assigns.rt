@@ -1,6 +1,5 @@
 // Rules by which roles are assigned.
 ghost use Rattle.std.specs.Prelude.{◌≡◌, ℕ, List, Decides};
-ghost use Rattle.lines.specs.Lines.{Lists};
 ghost use Rattle.texts.specs.declared.faults.Way.TheVariants.{Add, Remove};
 ghost use Rattle.tables.specs.View.{condition_of, assign_of, policy_of};
 ghost use Rattle.soundness.specs.Valid.{Whole};
@@ -9,6 +8,7 @@ ghost use Rattle.book.specs.Entering.{Entered};
 ghost use Rattle.drafts.specs.View.{book_of};
 ghost use Rattle.entering.specs.Laid.{AllNeedsWhole, Laid};
 ghost use Rattle.entering.specs.Places.{Place};
+ghost use Rattle.lines.specs.Changes.{NamesRoles};
 
 use crate::nodes;
 use book::Cause;
@@ -53,7 +53,7 @@ fn place_of(tables: &Tables, entry: &AssignEntry) -> Option<usize>
 pub(crate) fn add(tables: &mut Tables, entry: &AssignEntry, extra: &Extra) -> Result<(), Cause>
     requires needs { AllNeedsWhole tables.old }
     requires whole { Whole entry.now.needs }
-    ensures entered { (rs : List ℕ) → Lists rs entry.now.targets extra.now → Entered Add (book_of tables.old) (assigns (assign_of entry.now) rs) result (book_of tables.new) }
+    ensures entered { (rs : List ℕ) → NamesRoles rs entry.now.targets extra.now → Entered Add (book_of tables.old) (assigns (assign_of entry.now) rs) result (book_of tables.new) }
     ensures laid { Laid tables.old → Laid tables.new }
 {
     if extra.twice | place_of(tables, entry).is_some() {
@@ -65,7 +65,7 @@ pub(crate) fn add(tables: &mut Tables, entry: &AssignEntry, extra: &Extra) -> Re
 pub(crate) fn remove(tables: &mut Tables, entry: &AssignEntry, extra: &Extra) -> Result<(), Cause>
     requires needs { AllNeedsWhole tables.old }
     requires whole { Whole entry.now.needs }
-    ensures entered { (rs : List ℕ) → Lists rs entry.now.targets extra.now → Entered Remove (book_of tables.old) (assigns (assign_of entry.now) rs) result (book_of tables.new) }
+    ensures entered { (rs : List ℕ) → NamesRoles rs entry.now.targets extra.now → Entered Remove (book_of tables.old) (assigns (assign_of entry.now) rs) result (book_of tables.new) }
     ensures laid { Laid tables.old → Laid tables.new }
 {
     if extra.twice {

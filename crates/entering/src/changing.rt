@@ -10,7 +10,7 @@ use lines::Extra;
 use meaning::{LIST_PLACES, WORK_WORDS};
 use texts::alone::read_change;
 
-// The draft as the change that the text says makes it, before it is weighed as a whole, where the step list and the work table that are lent have these lengths.
+/// The draft as the change that the text says makes it, before it is weighed as a whole, where the step list and the work table that are lent have these lengths.
 pub fn changed(before: &Draft, text: &[u8], list: usize, work: usize) -> Result<Draft, Refusal>
     ensures { Changed (book_of before.now.tables) text.now list work result }
 {

@@ -1,11 +1,11 @@
 // The roles that a role is directly senior to.
 ghost use Rattle.std.specs.Prelude.{ℕ, List};
-ghost use Rattle.lines.specs.Lines.{Lists};
 ghost use Rattle.texts.specs.declared.faults.Way.TheVariants.{Add, Remove};
 ghost use Rattle.book.specs.Book.{edges};
 ghost use Rattle.book.specs.Entering.{Entered};
 ghost use Rattle.drafts.specs.View.{book_of};
 ghost use Rattle.entering.specs.Laid.{Laid};
+ghost use Rattle.lines.specs.Changes.{NamesRoles};
 
 use book::Cause;
 use lines::Extra;
@@ -19,7 +19,7 @@ pub(crate) fn add(
     juniors: RoleSet,
     extra: &Extra,
 ) -> Result<(), Cause>
-    ensures entered { (rs : List ℕ) → Lists rs juniors extra.now → Entered Add (book_of tables.old) (edges senior.number rs) result (book_of tables.new) }
+    ensures entered { (rs : List ℕ) → NamesRoles rs juniors extra.now → Entered Add (book_of tables.old) (edges senior.number rs) result (book_of tables.new) }
     ensures laid { Laid tables.old → Laid tables.new }
 {
     if extra.twice | tables.hierarchy.direct(senior).meets(juniors) {
@@ -38,7 +38,7 @@ pub(crate) fn remove(
     juniors: RoleSet,
     extra: &Extra,
 ) -> Result<(), Cause>
-    ensures entered { (rs : List ℕ) → Lists rs juniors extra.now → Entered Remove (book_of tables.old) (edges senior.number rs) result (book_of tables.new) }
+    ensures entered { (rs : List ℕ) → NamesRoles rs juniors extra.now → Entered Remove (book_of tables.old) (edges senior.number rs) result (book_of tables.new) }
     ensures laid { Laid tables.old → Laid tables.new }
 {
     if extra.twice {

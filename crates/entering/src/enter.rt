@@ -2,11 +2,11 @@
 ghost use Rattle.std.specs.Prelude.{◌≡◌};
 ghost use Rattle.texts.specs.declared.faults.Way.TheVariants.{Add as adding, Remove as removing};
 ghost use Rattle.book.specs.Entering.{Entered, Readable};
-ghost use Rattle.book.specs.Says.{says};
 ghost use Rattle.drafts.specs.View.{book_of};
 ghost use Rattle.drafts.specs.Neat.{Neat};
 ghost use Rattle.entering.specs.Laid.{Laid};
 ghost use Rattle.entering.specs.Entries.{assign_entry, requirement_entry};
+ghost use Rattle.book.specs.Says.{line_entry};
 
 use crate::{assigns, edges, gifts, pairs, requirements, revokes, trusts};
 use book::Cause;
@@ -44,7 +44,7 @@ fn requirement(demand: Demand, extra: &Extra) -> RequirementEntry
 fn add(tables: &mut Tables, change: Change, extra: &Extra) -> Result<(), Cause>
     requires laid { Laid tables.old }
     requires readable { Readable change extra.now }
-    ensures entered { (e : Readable change extra.now) → Entered adding (book_of tables.old) (says e.line) result (book_of tables.new) }
+    ensures entered { (e : Readable change extra.now) → Entered adding (book_of tables.old) (line_entry e.line) result (book_of tables.new) }
     ensures laid { Laid tables.new }
 {
     match change {
@@ -66,7 +66,7 @@ fn add(tables: &mut Tables, change: Change, extra: &Extra) -> Result<(), Cause>
 fn remove(tables: &mut Tables, change: Change, extra: &Extra) -> Result<(), Cause>
     requires laid { Laid tables.old }
     requires readable { Readable change extra.now }
-    ensures entered { (e : Readable change extra.now) → Entered removing (book_of tables.old) (says e.line) result (book_of tables.new) }
+    ensures entered { (e : Readable change extra.now) → Entered removing (book_of tables.old) (line_entry e.line) result (book_of tables.new) }
     ensures laid { Laid tables.new }
 {
     match change {
@@ -93,7 +93,7 @@ pub(crate) fn enter(
 ) -> Result<(), Cause>
     requires neat { (Neat tables.old → ⊥) → ⊥ }
     requires readable { Readable change extra.now }
-    ensures entered { (e : Readable change extra.now) → Entered way (book_of tables.old) (says e.line) result (book_of tables.new) }
+    ensures entered { (e : Readable change extra.now) → Entered way (book_of tables.old) (line_entry e.line) result (book_of tables.new) }
     ensures laid { (Laid tables.new → ⊥) → ⊥ }
 {
     match way {

@@ -1,11 +1,11 @@
 // The roles that a permission is given to.
 ghost use Rattle.std.specs.Prelude.{ℕ, List};
-ghost use Rattle.lines.specs.Lines.{Lists};
 ghost use Rattle.texts.specs.declared.faults.Way.TheVariants.{Add, Remove};
 ghost use Rattle.book.specs.Book.{gifts};
 ghost use Rattle.book.specs.Entering.{Entered};
 ghost use Rattle.drafts.specs.View.{book_of};
 ghost use Rattle.entering.specs.Laid.{Laid};
+ghost use Rattle.lines.specs.Changes.{NamesRoles};
 
 use book::Cause;
 use lines::Extra;
@@ -18,7 +18,7 @@ pub(crate) fn add(
     roles: RoleSet,
     extra: &Extra,
 ) -> Result<(), Cause>
-    ensures entered { (rs : List ℕ) → Lists rs roles extra.now → Entered Add (book_of tables.old) (gifts permission.number rs) result (book_of tables.new) }
+    ensures entered { (rs : List ℕ) → NamesRoles rs roles extra.now → Entered Add (book_of tables.old) (gifts permission.number rs) result (book_of tables.new) }
     ensures laid { Laid tables.old → Laid tables.new }
 {
     let place = permission.number() as usize;
@@ -36,7 +36,7 @@ pub(crate) fn remove(
     roles: RoleSet,
     extra: &Extra,
 ) -> Result<(), Cause>
-    ensures entered { (rs : List ℕ) → Lists rs roles extra.now → Entered Remove (book_of tables.old) (gifts permission.number rs) result (book_of tables.new) }
+    ensures entered { (rs : List ℕ) → NamesRoles rs roles extra.now → Entered Remove (book_of tables.old) (gifts permission.number rs) result (book_of tables.new) }
     ensures laid { Laid tables.old → Laid tables.new }
 {
     let place = permission.number() as usize;

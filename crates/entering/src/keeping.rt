@@ -1,7 +1,7 @@
 // A draft stays one, whatever line is entered in it.
 ghost use Rattle.book.specs.Entering.{Entered, Readable};
-ghost use Rattle.book.specs.Says.{says};
 ghost use Rattle.drafts.specs.View.{book_of};
+ghost use Rattle.book.specs.Says.{line_entry};
 
 use crate::enter::enter;
 use book::Cause;
@@ -17,7 +17,7 @@ pub(crate) fn enter_in(
     extra: &Extra,
 ) -> Result<(), Cause>
     requires { Readable change extra.now }
-    ensures { (e : Readable change extra.now) → Entered way (book_of draft.old.tables) (says e.line) result (book_of draft.new.tables) }
+    ensures { (e : Readable change extra.now) → Entered way (book_of draft.old.tables) (line_entry e.line) result (book_of draft.new.tables) }
 {
     enter(&mut draft.tables, way, change, extra)
 }

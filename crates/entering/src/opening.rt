@@ -38,7 +38,7 @@ fn put_lines(r: &mut Reader, draft: &mut Draft) -> Result<(), Refusal>
     Ok(())
 }
 
-// The draft that a board text says, before it is weighed as a whole.
+/// The draft that a board text says, before it is weighed as a whole.
 pub fn opened(text: &[u8]) -> Result<Draft, Refusal>
     ensures { Opened text.now result }
 {

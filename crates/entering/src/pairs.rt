@@ -1,12 +1,11 @@
 // The roles that are assigned to a user.
 ghost use Rattle.std.specs.Prelude.{ℕ, List};
-ghost use Rattle.lines.specs.Lines.{Lists};
 ghost use Rattle.texts.specs.declared.faults.Way.TheVariants.{Add, Remove};
-ghost use Rattle.tables.specs.Rows.{Apart};
 ghost use Rattle.book.specs.Book.{pairs};
 ghost use Rattle.book.specs.Entering.{Entered};
 ghost use Rattle.drafts.specs.View.{book_of};
 ghost use Rattle.entering.specs.Laid.{Laid};
+ghost use Rattle.lines.specs.Changes.{NamesRoles};
 
 use book::Cause;
 use lines::Extra;
@@ -19,8 +18,7 @@ pub(crate) fn add(
     roles: RoleSet,
     extra: &Extra,
 ) -> Result<(), Cause>
-    requires apart { Apart tables.old }
-    ensures entered { (rs : List ℕ) → Lists rs roles extra.now → Entered Add (book_of tables.old) (pairs user.number rs) result (book_of tables.new) }
+    ensures entered { (rs : List ℕ) → NamesRoles rs roles extra.now → Entered Add (book_of tables.old) (pairs user.number rs) result (book_of tables.new) }
     ensures laid { Laid tables.old → Laid tables.new }
 {
     if extra.twice | tables.assigned(user).meets(roles) {
@@ -35,8 +33,7 @@ pub(crate) fn remove(
     roles: RoleSet,
     extra: &Extra,
 ) -> Result<(), Cause>
-    requires apart { Apart tables.old }
-    ensures entered { (rs : List ℕ) → Lists rs roles extra.now → Entered Remove (book_of tables.old) (pairs user.number rs) result (book_of tables.new) }
+    ensures entered { (rs : List ℕ) → NamesRoles rs roles extra.now → Entered Remove (book_of tables.old) (pairs user.number rs) result (book_of tables.new) }
     ensures laid { Laid tables.old → Laid tables.new }
 {
     if extra.twice {

@@ -1,6 +1,5 @@
 // Rules by which roles are revoked.
 ghost use Rattle.std.specs.Prelude.{◌≡◌, ℕ, List, Decides};
-ghost use Rattle.lines.specs.Lines.{Lists};
 ghost use Rattle.texts.specs.declared.faults.Way.TheVariants.{Add, Remove};
 ghost use Rattle.tables.specs.View.{revoke_of, policy_of};
 ghost use Rattle.book.specs.Book.{revokes};
@@ -8,6 +7,7 @@ ghost use Rattle.book.specs.Entering.{Entered};
 ghost use Rattle.drafts.specs.View.{book_of};
 ghost use Rattle.entering.specs.Laid.{Laid};
 ghost use Rattle.entering.specs.Places.{Place};
+ghost use Rattle.lines.specs.Changes.{NamesRoles};
 
 use crate::regime::is_aatu;
 use book::Cause;
@@ -32,7 +32,7 @@ fn place_of(tables: &Tables, entry: RevokeEntry) -> Option<usize>
 }
 
 pub(crate) fn add(tables: &mut Tables, entry: RevokeEntry, extra: &Extra) -> Result<(), Cause>
-    ensures entered { (rs : List ℕ) → Lists rs entry.targets extra.now → Entered Add (book_of tables.old) (revokes (revoke_of entry) rs) result (book_of tables.new) }
+    ensures entered { (rs : List ℕ) → NamesRoles rs entry.targets extra.now → Entered Add (book_of tables.old) (revokes (revoke_of entry) rs) result (book_of tables.new) }
     ensures laid { Laid tables.old → Laid tables.new }
 {
     if is_aatu(tables) {
@@ -45,7 +45,7 @@ pub(crate) fn add(tables: &mut Tables, entry: RevokeEntry, extra: &Extra) -> Res
 }
 
 pub(crate) fn remove(tables: &mut Tables, entry: RevokeEntry, extra: &Extra) -> Result<(), Cause>
-    ensures entered { (rs : List ℕ) → Lists rs entry.targets extra.now → Entered Remove (book_of tables.old) (revokes (revoke_of entry) rs) result (book_of tables.new) }
+    ensures entered { (rs : List ℕ) → NamesRoles rs entry.targets extra.now → Entered Remove (book_of tables.old) (revokes (revoke_of entry) rs) result (book_of tables.new) }
     ensures laid { Laid tables.old → Laid tables.new }
 {
     if is_aatu(tables) {

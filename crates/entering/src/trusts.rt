@@ -4,7 +4,6 @@ ghost use Rattle.std.specs.List.{list_any, list_all, All, Any};
 ghost use Rattle.words.specs.Words.{bits};
 ghost use Rattle.meaning.specs.Measures.{users, trusted_users};
 ghost use Rattle.lines.specs.Entries.{all_below, repeats};
-ghost use Rattle.lines.specs.Lines.{Trusts};
 ghost use Rattle.lines.specs.Lists.{number_of};
 ghost use Rattle.texts.specs.declared.faults.Way.TheVariants.{Add, Remove};
 ghost use Rattle.bounded.specs.Entries.{entries};
@@ -14,6 +13,7 @@ ghost use Rattle.book.specs.Entering.{Entered};
 ghost use Rattle.drafts.specs.View.{book_of};
 ghost use Rattle.entering.specs.Laid.{Laid};
 ghost use Rattle.entering.specs.Trusting.{NamedIn, NoneNamed};
+ghost use Rattle.lines.specs.Changes.{NamesUsers};
 
 use crate::regime::is_aatu;
 use book::Cause;
@@ -83,8 +83,8 @@ fn are_trusted(tables: &Tables, list: &[User]) -> bool
 
 pub(crate) fn add(tables: &mut Tables, extra: &Extra) -> Result<(), Cause>
     requires once { repeats (map number_of (entries tables.old.trusted)) ≡ false }
-    ensures entered { (us : List ℕ) → Trusts us extra.now → all_below users us ≡ true → Entered Add (book_of tables.old) (trusts us) result (book_of tables.new) }
-    ensures laid { (us : List ℕ) → Trusts us extra.now → all_below users us ≡ true → Laid tables.old → Laid tables.new }
+    ensures entered { (us : List ℕ) → NamesUsers us extra.now → all_below users us ≡ true → Entered Add (book_of tables.old) (trusts us) result (book_of tables.new) }
+    ensures laid { (us : List ℕ) → NamesUsers us extra.now → all_below users us ≡ true → Laid tables.old → Laid tables.new }
 {
     if !is_aatu(tables) {
         return Err(Cause::WrongRegime);
@@ -101,7 +101,7 @@ pub(crate) fn add(tables: &mut Tables, extra: &Extra) -> Result<(), Cause>
 }
 
 pub(crate) fn remove(tables: &mut Tables, extra: &Extra) -> Result<(), Cause>
-    ensures entered { (us : List ℕ) → Trusts us extra.now → all_below users us ≡ true → Entered Remove (book_of tables.old) (trusts us) result (book_of tables.new) }
+    ensures entered { (us : List ℕ) → NamesUsers us extra.now → all_below users us ≡ true → Entered Remove (book_of tables.old) (trusts us) result (book_of tables.new) }
     ensures laid { Laid tables.old → Laid tables.new }
 {
     if !is_aatu(tables) {

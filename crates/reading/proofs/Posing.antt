@@ -10,16 +10,18 @@ use Rattle.lines.specs.declared.change.Extra.{Extra}
 use Rattle.lines.specs.declared.keyword.Keyword.TheVariants.{Possible, Necessary}
 use Rattle.lines.specs.Bodies.{Sides, question_of}
 use Rattle.lines.specs.Languages.{Says}
-use Rattle.lines.specs.Lines.{Sentence, questions, Sided}
+use Rattle.lines.specs.Lines.{Sentence, questions}
 use Rattle.texts.specs.declared.faults.Fault.{Fault}
 use Rattle.texts.specs.declared.faults.Fault.TheVariants.{InLine}
-use Rattle.texts.specs.Answers.{Faulty, Asks, asks_possible, asks_necessary}
+use Rattle.texts.specs.Answers.{Faulty}
 use Rattle.survey.proofs.Askable.{sides_askable}
 use Rattle.tables.specs.View.{set_of}
 use Rattle.tables.specs.View as View
 use Rattle.questions.specs.Inquired.{Posable}
 use Rattle.drafts.proofs.Sets.{set_is}
-use Rattle.reading.specs.Posing.{Poses, possibly, necessarily}
+use Rattle.book.specs.Says.{Poses, possibly, necessarily}
+use Rattle.lines.specs.Changes.{Sided}
+use Rattle.texts.specs.Sentences.{Asks, asks_possible, asks_necessary}
 
 is_so : (b : Bool) → (b ≡ false → ⊥) → b ≡ true
 is_so true f = refl
@@ -37,9 +39,9 @@ module _ (text : List ℕ) (faultless : (d : Fault) → Faulty questions text d 
   -- what a sentence poses by the nodes beside it
   pub record ByNodes (e : Extra) (kind : Kind) (f : Sentence) : Type 0 where
     pub posable : Posable e.left e.right
-    pub poses : Poses f kind (View.question_of e.left e.right)
+    pub poses : Poses f kind (View.stored_question e.left e.right)
 
-  same_question : (x : Sides) (e : Extra) → Sided x e → View.question_of e.left e.right ≡ question_of x
+  same_question : (x : Sides) (e : Extra) → Sided x e → View.stored_question e.left e.right ≡ question_of x
   same_question x e s =
       let make : UserSet → UserSet → Question = λ a b. record { larger = a; smaller = b } in
       ap₂ make (set_is e.left (meaning x.larger) s.left) (set_is e.right (meaning x.smaller) s.right)

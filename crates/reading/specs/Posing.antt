@@ -11,11 +11,7 @@ use Rattle.texts.specs.declared.faults.Fault.{Fault}
 use Rattle.texts.specs.Answers.{told, Faulty}
 use Rattle.questions.specs.declared.inquiry.Inquiry.{Inquiry}
 use Rattle.questions.specs.Inquired.{inquired}
-
--- the kind of a question, and what is asked
-pub data Poses : Sentence → Kind → Question → Type 0 where
-  possibly : {x : Sides} → Poses (record { keyword = keyword.Possible; body = x }) Possible (question_of x)
-  necessarily : {x : Sides} → Poses (record { keyword = keyword.Necessary; body = x }) Necessary (question_of x)
+use Rattle.book.specs.Says.{Poses}
 
 -- the text is a sentence that poses this question, and nothing is to be refused
 pub record PosedBy (text : List ℕ) (kind : Kind) (q : Question) : Type 0 where

@@ -6,7 +6,7 @@ use questions::Inquiry;
 use texts::Fault;
 use texts::alone::read_question;
 
-// The question that the text poses, or why it is refused.
+/// The question that the text poses, or why it is refused.
 pub fn read_inquiry(text: &[u8]) -> Result<Inquiry, Fault>
     ensures { Posed text.now result }
 {

@@ -4,10 +4,10 @@ use mathlib.Core.Path.{subst⁻¹}
 use borrow.Author.Tests.{clash}
 use Rattle.std.proofs.lemmas.Bool.{lt-ltb}
 use Rattle.std.proofs.lemmas.List.{append-nil, take_more, map-append}
+use Rattle.meaning.specs.Measures.{users}
 use Rattle.meaning.specs.Lists.{Nth}
 use Rattle.meaning.proofs.Tests.{first, second, as_true}
 use Rattle.meaning.proofs.Numbered.{nth_at}
-use Rattle.lines.specs.Entries.{entries}
 use Rattle.pen.specs.Ascending.{ascending}
 use Rattle.pen.specs.declared.writer.Writer.{Writer}
 use Rattle.pen.specs.Puts.{Wrote}
@@ -15,6 +15,7 @@ use Rattle.pen.proofs.Join.{join, to}
 use Rattle.boardtext.specs.Canonical.{ended, each, trust_line}
 use Rattle.boardtext.proofs.Listing.{none_passes}
 use Rattle.storing.proofs.Walking.{none_ascend}
+use Rattle.lines.specs.Entries.{entry_bytes}
 
 -- ---- one entry more
 
@@ -39,21 +40,21 @@ unfolding ascending
 ascending_same f g zero h = refl
 ascending_same f g (suc n) h = ap₂ (λ l b. l ++ cond b (n ∷ []) []) (ascending_same f g n (λ k l. h k (omega arith))) (h n (omega arith))
 
-trust_of : (us : List ℕ) → (us ≡ [] → ⊥) → ended (codes "trust" ++ entries 117 us) ≡ trust_line us
+trust_of : (us : List ℕ) → (us ≡ [] → ⊥) → ended (codes "trust" ++ entry_bytes 117 us) ≡ trust_line us
 trust_of [] h = absurd (h refl)
 trust_of (u ∷ us) h = refl
 
-module _ (f g : ℕ → Bool) (is : (u : ℕ) → f u ≡ (ltb u 65536 && g u)) (somebody : Bool) (d : Decides somebody ((u : ℕ) × (u < 65536) × T (g u))) where
-  within : (u : ℕ) → u < 65536 → g u ≡ f u
-  within u l = sym (is u ∙ ap (λ b. b && g u) (lt-ltb u 65536 l))
+module _ (f g : ℕ → Bool) (is : (u : ℕ) → f u ≡ (ltb u users && g u)) (somebody : Bool) (d : Decides somebody ((u : ℕ) × (u < users) × T (g u))) where
+  within : (u : ℕ) → u < users → g u ≡ f u
+  within u l = sym (is u ∙ ap (λ b. b && g u) (lt-ltb u users l))
 
-  pub trust_written : somebody ≡ true → ended (codes "trust" ++ entries 117 (ascending g 65536)) ≡ trust_line (ascending f 65536)
+  pub trust_written : somebody ≡ true → ended (codes "trust" ++ entry_bytes 117 (ascending g users)) ≡ trust_line (ascending f users)
   trust_written e =
       let (u, l, t) = d.0 e in
-      ap (λ us. ended (codes "trust" ++ entries 117 us)) (ascending_same g f 65536 within)
-      ∙ trust_of (ascending f 65536) (λ none. none_passes f 65536 none u l (subst (λ (b : Bool). T b) (within u l) t))
+      ap (λ us. ended (codes "trust" ++ entry_bytes 117 us)) (ascending_same g f users within)
+      ∙ trust_of (ascending f users) (λ none. none_passes f users none u l (subst (λ (b : Bool). T b) (within u l) t))
 
-  pub nobody_written : somebody ≡ false → [] ≡ trust_line (ascending f 65536)
-  nobody_written e = sym (ap trust_line (none_ascend f 65536 (λ u t.
-      let h : T (ltb u 65536 && g u) = subst (λ (b : Bool). T b) (is u) t in
-      clash (sym e ∙ d.1 (u, ltb-true u 65536 (as_true (ltb u 65536) (first (ltb u 65536) (g u) h)), second (ltb u 65536) (g u) h)))))
+  pub nobody_written : somebody ≡ false → [] ≡ trust_line (ascending f users)
+  nobody_written e = sym (ap trust_line (none_ascend f users (λ u t.
+      let h : T (ltb u users && g u) = subst (λ (b : Bool). T b) (is u) t in
+      clash (sym e ∙ d.1 (u, ltb-true u users (as_true (ltb u users) (first (ltb u users) (g u) h)), second (ltb u users) (g u) h)))))

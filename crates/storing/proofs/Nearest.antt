@@ -2,9 +2,10 @@
 use Rattle.std.proofs.Common.{◌≡◌, ℕ, suc, ◌<◌, ◌≤◌, false, T, List, length, sym, ◌∙◌, subst, ⊎_elim, arith}
 use borrow.Author.Tests.{clash}
 use Rattle.std.proofs.lemmas.Bool.{cases_eq}
+use Rattle.meaning.specs.Measures.{users}
 use Rattle.tables.specs.declared.entries.Row.{Row}
 use Rattle.tables.specs.declared.tables.Tables.{Tables}
-use Rattle.tables.specs.View.{state_of}
+use Rattle.tables.specs.View.{rows_of, state_of}
 use Rattle.tables.specs.Rows.{row_at, Used, is_used}
 use Rattle.tables.proofs.Placing.{gives_used}
 use Rattle.tables.proofs.Rowing.{holder_gives}
@@ -12,11 +13,11 @@ use Rattle.storing.specs.Next.{Next}
 
 -- the least of the first rows
 pub record Nearest (rows : List Row) (from next i : ℕ) : Type 0 where
-  pub onward : from ≤ 65536 → from ≤ next
-  pub inside : next ≤ 65536
+  pub onward : from ≤ users → from ≤ next
+  pub inside : next ≤ users
   pub least : (k : ℕ) → k < i → Used (row_at rows k) → from ≤ (row_at rows k).user.number → next ≤ (row_at rows k).user.number
 
-pub start : (rows : List Row) (from : ℕ) → Nearest rows from 65536 0
+pub start : (rows : List Row) (from : ℕ) → Nearest rows from users 0
 start rows from = record { onward = λ l. l; inside = omega arith; least = λ k l. absurd (omega arith) }
 
 module _ (rows : List Row) (from next i : ℕ) (h : Nearest rows from next i) where
@@ -39,7 +40,7 @@ pub all_rows : (rows : List Row) (from next i : ℕ) → length rows ≤ i → N
 all_rows rows from next i l h = record { onward = h.onward; inside = h.inside; least = λ k small. h.least k (omega (arith, l, small)) }
 
 -- nobody in between has a row
-pub none_between : (t : Tables) (from next : ℕ) → Next t.rows from next → (u : ℕ) → from ≤ u → u < next → (q : ℕ) → T (state_of t u q) → ⊥
+pub none_between : (t : Tables) (from next : ℕ) → Next (rows_of t) from next → (u : ℕ) → from ≤ u → u < next → (q : ℕ) → T (state_of t u q) → ⊥
 none_between t from next h u a b q held =
     let (k, small, used, e) = holder_gives t u (q, held) in
     let m = h.least k small used (omega (arith, a, e)) in

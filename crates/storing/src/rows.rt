@@ -33,11 +33,11 @@ fn next_user(rows: &[Row], from: u32) -> u32
 pub(crate) fn put_users(w: &mut Writer, tables: &Tables)
     ensures { Wrote w.old (row_lines (codes "ua u") (state_of tables.now) users) w.new }
 {
-    let mut from = next_user(&tables.rows, 0);
+    let mut from = next_user(tables.rows.entries(), 0);
     while let Some(user) = User::new(from) {
         let roles = tables.assigned(user);
         put_row(w, Change::Ua { user, roles }, roles);
-        from = next_user(&tables.rows, user.number() as u32 + 1);
+        from = next_user(tables.rows.entries(), user.number() as u32 + 1);
     }
 }
 

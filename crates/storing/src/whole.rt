@@ -31,14 +31,14 @@ fn put_board(w: &mut Writer, tables: &Tables)
     put_requirements(w, tables.requirements.entries());
 }
 
-// How long the text of the board is.
+/// How long the text of the board is.
 pub fn board_size(tables: &Tables) -> usize
     ensures { ((Neat tables.now → ⊥) → ⊥) → result ≡ length (canonical_board (book_of tables.now)) }
 {
     size(|w| put_board(w, tables))
 }
 
-// Writes the one canonical text of the board at the front of the place, and says how long it is; a place that is too short is left as it was.
+/// Writes the one canonical text of the board at the front of the place, and says how long it is; a place that is too short is left as it was.
 pub fn save(tables: &Tables, place: &mut [u8]) -> Option<usize>
     ensures { ((Neat tables.now → ⊥) → ⊥) → Saved (canonical_board (book_of tables.now)) place.old result place.new }
 {

@@ -1,6 +1,8 @@
 // Boards read from texts and saved, and what is written then.
 #![tactic(auto)]
 
+mod rewriting;
+
 use grammar::Reader;
 use hierarchy::Edge;
 use lines::{Change, Extra};

@@ -2,7 +2,7 @@
 use Rattle.std.proofs.Common.{◌≡◌, ℕ, refl, subst}
 use Rattle.meaning.specs.Sets.{Question, Askable}
 use Rattle.meaning.specs.Lists.{Nth}
-use Rattle.meaning.specs.Requirements.{Requirement}
+use Rattle.meaning.specs.Requirements.{Requirement, required}
 use Rattle.lines.specs.Lines.{Fine, bodies}
 use Rattle.lines.specs.declared.keyword.Keyword.{Keyword}
 use Rattle.lines.specs.declared.keyword.Keyword.TheVariants.{Ua, Pa, Rh, Trust, Assign, Revoke, Always, Never, Possible, Necessary}
@@ -20,7 +20,6 @@ use Rattle.book.specs.Book.{Entry, pairs, gifts, edges, trusts, assigns, revokes
 use Rattle.book.specs.Says.{entry_of}
 use Rattle.book.specs.Orderly.{Said}
 use Rattle.questions.specs.Inquired.{Posable}
-use Rattle.weighing.specs.Standing.{asked}
 
 -- what is known of an entry that a line says
 abbrev Required : Entry → Type 0
@@ -30,7 +29,7 @@ Required (edges q rs) = Unit {0}
 Required (trusts us) = Unit {0}
 Required (assigns rule rs) = Unit {0}
 Required (revokes rule rs) = Unit {0}
-Required (requires d) = Askable (asked d)
+Required (requires d) = Askable (required d)
 
 from_body : (k : Keyword) (b : (bodies k).Form) → Fine (record { keyword = k; body = b }) → Required (entry_of k b)
 from_body Ua b h = tt
@@ -44,11 +43,11 @@ from_body Never b h = sides_askable b h.ranged h.small h.semi_static
 from_body Possible b h = sides_askable b h.ranged h.small h.semi_static
 from_body Necessary b h = sides_askable b h.ranged h.small h.semi_static
 
-pub askable : (d : Requirement) → Said (requires d) → Askable (asked d)
+pub askable : (d : Requirement) → Said (requires d) → Askable (required d)
 askable d s = subst Required s.names (from_body s.line.keyword s.line.body s.fine)
 
 -- and so can every requirement of tables in good order
-asked_demanded : (d : Demand) (q : Question) → asked (demanded d q) ≡ q
+asked_demanded : (d : Demand) (q : Question) → required (demanded d q) ≡ q
 asked_demanded DemandAlways q = refl
 asked_demanded DemandNever q = refl
 
@@ -67,5 +66,5 @@ entry_posable t neat {k} {e} n =
     record {
       larger_set = larger;
       smaller_set = smaller;
-      askable = subst Askable (asked_demanded e.demand (View.question_of e.larger e.smaller)) (askable d (neat.orderly.requirements_said k d (numbered t n)));
+      askable = subst Askable (asked_demanded e.demand (View.stored_question e.larger e.smaller)) (askable d (neat.orderly.requirements_said k d (numbered t n)));
     }

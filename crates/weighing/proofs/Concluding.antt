@@ -1,5 +1,6 @@
 -- The ways out of weighing, as ways through the table.
 use Rattle.std.proofs.Common.{◌≡◌, ℕ, ◌<◌, ◌≤◌, ◌⊎◌, List, length, refl, ap, subst, inl, inr, arith, lit<}
+use Rattle.meaning.specs.Measures.{list_places, work_words}
 use Rattle.book.specs.declared.refusal.Cause.{Cause}
 use Rattle.book.specs.declared.refusal.Cause.TheVariants.{TooShort, RequirementFails}
 use Rattle.book.specs.Numbers.{number_of}
@@ -29,15 +30,15 @@ same_failure f g e = ap (failure_in f) e
 pub leaves_run : (b : Book) (f : Failure) (list after : List RunStep) → FailsBy b f list after → Leaves b (cause_of f) list after
 leaves_run b f list after x = record { others = λ other. absurd (other refl); failed = λ g e. subst (λ h. FailsBy b h list after) (same_failure f g e) x }
 
-pub long_enough : (list work : ℕ) → 8512 ≤ list → 133 ≤ work → (list < 8512) ⊎ (work < 133) → ⊥
+pub long_enough : (list work : ℕ) → list_places ≤ list → work_words ≤ work → (list < list_places) ⊎ (work < work_words) → ⊥
 long_enough list work a b (inl l) = omega arith
 long_enough list work a b (inr l) = omega arith
 
 module _ (t : Tables) (list : List RunStep) (work : ℕ) where
-  pub short : (length list < 8512) ⊎ (work < 133) → Falls t list work TooShort list
+  pub short : (length list < list_places) ⊎ (work < work_words) → Falls t list work TooShort list
   short l = record { least = here l (lit< tt, (lit< tt, (lit< tt, (lit< tt, tt)))); leaves = leaves_same (book_of t) TooShort list (lit< tt) }
 
-  module _ (places : 8512 ≤ length list) (words : 133 ≤ work) where
+  module _ (places : list_places ≤ length list) (words : work_words ≤ work) where
     pub by_regime : (c : Cause) → Least (whole (book_of t)) (number_of c) × (number_of c < 18) → Falls t list work c list
     by_regime c (l, small) = record { least = skip (long_enough (length list) work places words) l; leaves = leaves_same (book_of t) c list small }
 

@@ -6,7 +6,7 @@ use Rattle.std.proofs.lemmas.Bool.{cases_lt}
 use Rattle.meaning.specs.Membership.{State}
 use Rattle.meaning.specs.Rules.{Policy}
 use Rattle.meaning.specs.Lists.{Nth}
-use Rattle.meaning.specs.Requirements.{Requirement, always, never, Met, Stands}
+use Rattle.meaning.specs.Requirements.{Requirement, always, never, Met, Stands, Breaks}
 use Rattle.meaning.proofs.Numbered.{at_nth, nth_at}
 use Rattle.tables.specs.declared.entries.RequirementEntry.{RequirementEntry}
 use Rattle.tables.specs.declared.tables.Tables.{Tables}
@@ -16,7 +16,7 @@ use Rattle.book.specs.Stories.{AllStand}
 use Rattle.drafts.specs.View.{book_of}
 use Rattle.deciding.specs.declared.runs.RunStep.{RunStep}
 use Rattle.verdicts.specs.declared.verdict.Shown.{Shown}
-use Rattle.weighing.specs.Standing.{Breaks, Broken}
+use Rattle.weighing.specs.Standing.{Broken}
 use Rattle.weighing.specs.Weighing.{FailsBy}
 use Rattle.weighing.proofs.Asked.{numbered, by_number}
 

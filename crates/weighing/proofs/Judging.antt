@@ -35,5 +35,5 @@ module _ (p : Policy) (s : State) (q : Question) (list : List RunStep) (v : Verd
   stands Never x e = ((λ run r h. not_true v.yes (sym x.shown ∙ ap is_some e) (x.exact.1 (run, r, h))), where_none v.run (after ≡ list) _ e x.run)
 
   pub broken : (d : Demand) → Decided (asked_by d) p s q list v after → (run : Shown) → v.run ≡ Some run → Broken p s (demanded d q) list run after
-  broken Always x run e = let (s, r) = where_some v.run run (after ≡ list) _ e x.run in record { shows = s; rest = r }
-  broken Never x run e = let (s, r) = where_some v.run run (after ≡ list) _ e x.run in record { shows = s; rest = r }
+  broken Always x run e = let (s, r, l) = where_some v.run run (after ≡ list) _ e x.run in record { shows = s; rest = r; fits = l }
+  broken Never x run e = let (s, r, l) = where_some v.run run (after ≡ list) _ e x.run in record { shows = s; rest = r; fits = l }

@@ -2,7 +2,7 @@
 use Rattle.std.proofs.Common.{[], ⊎_elim, arith}
 use Rattle.meaning.specs.Membership.{State}
 use Rattle.meaning.specs.Requirements.{Requirement, always, never, Stands}
-use Rattle.theory.specs.Bounds.{Measured}
+use Rattle.theory.specs.Bounds.{WithinMeasures}
 use Rattle.theory.proofs.Deciding.{holds?}
 use Rattle.rbac.specs.declared.users.User.{User as AUser}
 use Rattle.bounded.specs.Entries.{entries}
@@ -10,19 +10,19 @@ use Rattle.bounded.proofs.Listing.{few}
 use Rattle.deciding.proofs.Viewing.{map_length}
 use Rattle.planning.proofs.Hiring.{numbers, trusted_listed}
 use Rattle.planning.proofs.Planning.{given_inside, target_inside}
-use Rattle.planning.proofs.Ranking.{edge_inside}
+use Rattle.planning.proofs.Masking.{edge_inside}
 use Rattle.tables.specs.declared.tables.Tables.{Tables}
 use Rattle.tables.specs.Fresh.{nothing_assigned}
 use Rattle.tables.specs.View.{policy_of}
 
 -- whatever is assigned, what the tables say of edges, permissions and rules is in range
-within : (t : Tables) → Measured (policy_of t) nothing_assigned
+within : (t : Tables) → WithinMeasures (policy_of t) nothing_assigned
 within t = record {
-  rowed = [];
+  row_holders = [];
   few_rows = omega arith;
-  all_rowed = λ u h. absurd h.1;
-  only_rowed = λ u h. absurd h;
-  trusting = numbers (entries t.trusted);
+  all_row_holders = λ u h. absurd h.1;
+  only_row_holders = λ u h. absurd h;
+  trusted_list = numbers (entries t.trusted);
   few_trusted = let e = map_length (λ (x : AUser). x.number) (entries t.trusted) in omega (arith, few t.trusted);
   all_trusted = trusted_listed t;
   assigned_inside = λ u r h. absurd h;

@@ -5,8 +5,7 @@ use Rattle.book.specs.declared.refusal.Cause.TheVariants.{RequirementFails}
 use Rattle.book.specs.Numbers.{number_of}
 use Rattle.book.specs.Book.{Book}
 use Rattle.book.specs.Grounds.{Fails}
-use Rattle.book.specs.Refusals.{Least, lent, whole}
-use Rattle.book.specs.Refusals.{None as NoneApplies}
+use Rattle.book.specs.Refusals.{Least, lent, whole, NoneApplies}
 use Rattle.book.specs.Stories.{AllStand}
 use Rattle.tables.specs.declared.tables.Tables.{Tables}
 use Rattle.soundness.specs.declared.valid.Valid.{Valid}

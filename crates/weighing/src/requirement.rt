@@ -1,7 +1,7 @@
 // One standing requirement, asked of the engine that answers questions.
 ghost use Rattle.std.specs.Prelude.{◌≡◌, ℕ, ◌≤◌, length};
 ghost use Rattle.meaning.specs.Measures.{list_places, work_words};
-ghost use Rattle.tables.specs.View.{policy_of, state_of, requirement_of, question_of};
+ghost use Rattle.tables.specs.View.{policy_of, state_of, requirement_of, stored_question};
 ghost use Rattle.questions.specs.Inquired.{inquired, Posable};
 ghost use Rattle.weighing.specs.Standing.{asked_by, Judged};
 
@@ -25,7 +25,7 @@ fn kind(demand: Demand) -> Kind
 fn inquiry(entry: RequirementEntry) -> Inquiry
     requires { (Posable entry.larger entry.smaller → ⊥) → ⊥ }
     ensures kind { result.kind ≡ asked_by entry.demand }
-    ensures asks { inquired result ≡ question_of entry.larger entry.smaller }
+    ensures asks { inquired result ≡ stored_question entry.larger entry.smaller }
 {
     match Inquiry::new(kind(entry.demand), entry.larger, entry.smaller) {
         Some(inquiry) => inquiry,

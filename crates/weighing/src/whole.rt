@@ -51,7 +51,7 @@ fn weigh_in(draft: &Draft, list: &mut [RunStep], work: &mut [u64]) -> Result<Val
     Ok(valid)
 }
 
-// The draft as a board's tables, or the refusal of the smallest number: of what is lent, of the regime, or of a requirement.
+/// The draft as a board's tables, or the refusal of the smallest number: of what is lent, of the regime, or of a requirement.
 pub fn weigh(draft: &Draft, list: &mut [RunStep], work: &mut [u64]) -> Result<Valid, Cause>
     ensures weighed { Weighed draft.now.tables list.old (length work.old) result list.new }
     ensures clean { (k : ℕ) → slice_index work.new k ≡ 0 }

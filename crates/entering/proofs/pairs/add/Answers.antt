@@ -27,7 +27,7 @@ returns-clause-entered c rs l =
     let meets = meets_as (roles_of c.assigned.result) (state_of t u) roles c.assigned.ensures c.meets.ensures in
     let is : c.map_err.result ≡ told c.assign_all.result = search rules in
     subst⁻¹ (λ r. Entered Add (book_of t) (pairs u rs) r (book_of c.assign_all.new.self)) is
-    (pairs_entered t c.assign_all.new.self u roles rs l.set c.requires.apart (not_there (state_of t u) roles rs l.set c.args.extra.now.twice l.twice c.meets.result meets c.if-extra-meets.false) c.assign_all.result c.assign_all.ensures)
+    (pairs_entered t c.assign_all.new.self u roles rs l.set (not_there (state_of t u) roles rs l.set c.args.extra.now.twice l.twice c.meets.result meets c.if-extra-meets.false) c.assign_all.result c.assign_all.ensures)
 
 pub returns-clause-laid : goal.returns-clause-laid
 returns-clause-laid c h = assigned_laid c.args.tables.now c.assign_all.new.self c.args.user.number (roles_of c.args.roles) c.assign_all.result c.assign_all.ensures h

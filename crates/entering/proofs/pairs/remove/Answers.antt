@@ -29,7 +29,7 @@ returns-clause-entered c rs l =
     let again = c.args.extra.now.twice in
     let within = within_as (roles_of c.assigned.result) row roles c.assigned.ensures c.is_within.ensures in (
       removed (book_of t) (pairs u rs) (λ x. x) (named_once row roles rs l.set again l.twice c.if-extra.false) (none_missing row roles rs l.set again l.twice c.is_within.result within c.if-not-is_within.false),
-      pairs_removed t c.unassign_all.new.self u roles rs l.set c.requires.apart c.unassign_all.ensures,
+      pairs_removed t c.unassign_all.new.self u roles rs l.set c.unassign_all.ensures,
     )
 
 pub returns-clause-laid : goal.returns-clause-laid

@@ -1,5 +1,6 @@
 use Rattle.std.proofs.Common.{rules, MatchBool, length, ◌-◌, ◌<◌, refl, ap, subst, arith}
 use Rattle.std.specs.List.{All, Any}
+use Rattle.meaning.specs.Measures.{trusted_users}
 use Rattle.words.specs.Words.{bits}
 use Rattle.bounded.specs.Entries.{entries}
 use Rattle.book.specs.Book.{trusts}
@@ -24,7 +25,7 @@ returns-then-room-extra-clause-entered c us says inside =
     let t = c.args.tables.now in
     let e = c.args.extra.now in
     let met = subst (λ l. MatchBool c.some_named.result (Any (NamedIn (bits e.named)) l) (All (NoneNamed (bits e.named)) l)) c.entries.ensures.all c.some_named.ensures in
-    let small : 32 - length (entries t.trusted) < e.many = omega (arith, c.if-room-extra.true, c.saturating_sub-room.ensures, ap length c.entries-2.ensures.all) in (
+    let small : trusted_users - length (entries t.trusted) < e.many = omega (arith, c.if-room-extra.true, c.saturating_sub-room.ensures, ap length c.entries-2.ensures.all) in (
       full (book_of t) (trusts us) (λ w. not_both (c.is_aatu.ensures.aatu.0 c.if-not-is_aatu.false) w)
           (new_and_named_once t e us says inside c.some_named.result met c.if-extra-some_named.false)
           (is_crowded t e us says inside c.some_named.result met c.if-extra-some_named.false c.requires.once small),
@@ -36,7 +37,7 @@ returns-clause-entered c us says inside =
     let t = c.args.tables.now in
     let e = c.args.extra.now in
     let met = subst (λ l. MatchBool c.some_named.result (Any (NamedIn (bits e.named)) l) (All (NoneNamed (bits e.named)) l)) c.entries.ensures.all c.some_named.ensures in
-    let room = λ (h : 32 - length (entries t.trusted) < e.many). (let k = c.if-room-extra.false in absurd (omega (arith, h, k, c.saturating_sub-room.ensures, ap length c.entries-2.ensures.all))) in (
+    let room = λ (h : trusted_users - length (entries t.trusted) < e.many). (let k = c.if-room-extra.false in absurd (omega (arith, h, k, c.saturating_sub-room.ensures, ap length c.entries-2.ensures.all))) in (
       added (book_of t) (trusts us) (λ w. not_both (c.is_aatu.ensures.aatu.0 c.if-not-is_aatu.false) w)
           (new_and_named_once t e us says inside c.some_named.result met c.if-extra-some_named.false)
           (not_crowded t e us says inside room)
@@ -49,5 +50,5 @@ returns-clause-laid c us says inside laid =
     let t = c.args.tables.now in
     let e = c.args.extra.now in
     let met = subst (λ l. MatchBool c.some_named.result (Any (NamedIn (bits e.named)) l) (All (NoneNamed (bits e.named)) l)) c.entries.ensures.all c.some_named.ensures in
-    let room = λ (h : 32 - length (entries t.trusted) < e.many). (let k = c.if-room-extra.false in absurd (omega (arith, h, k, c.saturating_sub-room.ensures, ap length c.entries-2.ensures.all))) in
+    let room = λ (h : trusted_users - length (entries t.trusted) < e.many). (let k = c.if-room-extra.false in absurd (omega (arith, h, k, c.saturating_sub-room.ensures, ap length c.entries-2.ensures.all))) in
     added_once t e us says inside room c.append.new.list (search (rules)) c.some_named.result met c.if-extra-some_named.false laid

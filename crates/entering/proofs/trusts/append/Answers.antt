@@ -1,5 +1,6 @@
 use Rattle.std.proofs.Common.{◌++◌, take, refl, ap, ◌∙◌}
 use Rattle.std.proofs.lemmas.List.{take_all}
+use Rattle.meaning.specs.Measures.{trusted_users}
 use Rattle.rbac.specs.declared.users.User.{User}
 use Rattle.bounded.specs.Entries.{entries}
 use Rattle.lines.proofs.Trusting.{kept_more}
@@ -18,4 +19,4 @@ more-preserved c =
     (kept_more c.more.list c.push.new.self _ c.push.result c.push.ensures) refl
 
 pub returns : goal.returns
-returns c = c.more.invariant ∙ ap (λ l. take 32 (entries c.args.list.now ++ l)) (take_all c.more.user-index c.args.more.now c.more-test.false)
+returns c = c.more.invariant ∙ ap (λ l. take trusted_users (entries c.args.list.now ++ l)) (take_all c.more.user-index c.args.more.now c.more-test.false)

@@ -1,5 +1,6 @@
 use Rattle.std.proofs.Common.{◌≡◌, take, ap, ◌∙◌, refl}
 use Rattle.std.specs.List.{list_all}
+use Rattle.meaning.specs.Measures.{trusted_users}
 use Rattle.words.specs.Words.{bits}
 use Rattle.rbac.specs.declared.users.User.{User}
 use Rattle.bounded.specs.Entries.{entries}
@@ -31,10 +32,10 @@ returns-clause-entered c us says inside =
     let tells : c.are_trusted.result ≡ list_all (λ (u : User). (policy_of t).trusted u.number) (entries e.trusted) = c.are_trusted.ensures ∙ ap (list_all (λ (u : User). (policy_of t).trusted u.number)) c.entries.ensures.all in (
       removed (book_of t) (trusts us) (λ w. not_both (c.is_aatu.ensures.aatu.0 c.if-not-is_aatu.false) w) (once (repeats us) says.twice c.if-extra.false)
           (none_untrusted t e us says inside c.if-extra.false c.are_trusted.result tells c.if-extra-are_trusted.false),
-      users_removed t e us says inside c.without-tables.result (c.without-tables.ensures ∙ ap (λ l. take 32 (outside (bits e.named) l)) c.entries-2.ensures.all),
+      users_removed t e us says inside c.without-tables.result (c.without-tables.ensures ∙ ap (λ l. take trusted_users (outside (bits e.named) l)) c.entries-2.ensures.all),
     )
 
 pub returns-clause-laid : goal.returns-clause-laid
 returns-clause-laid c laid =
     let set = bits c.args.extra.now.named in
-    removed_once c.args.tables.now set c.without-tables.result (c.without-tables.ensures ∙ ap (λ l. take 32 (outside set l)) c.entries-2.ensures.all) laid
+    removed_once c.args.tables.now set c.without-tables.result (c.without-tables.ensures ∙ ap (λ l. take trusted_users (outside set l)) c.entries-2.ensures.all) laid

@@ -1,5 +1,6 @@
 use Rattle.std.proofs.Common.{not, take, filter, refl, sym, ap, ◌∙◌}
 use Rattle.std.proofs.lemmas.List.{take_all}
+use Rattle.meaning.specs.Measures.{trusted_users}
 use Rattle.words.specs.Words.{bits}
 use Rattle.rbac.specs.declared.users.User.{User}
 use Rattle.bounded.specs.Entries.{entries}
@@ -22,4 +23,4 @@ list-preserved c =
     ]
 
 pub returns : goal.returns
-returns c = c.list.invariant ∙ ap (λ us. take 32 (filter (λ (u : User). not (bits c.args.named.now u.number)) us)) (take_all c.list.user-index c.args.list.now c.list-test.false)
+returns c = c.list.invariant ∙ ap (λ us. take trusted_users (filter (λ (u : User). not (bits c.args.named.now u.number)) us)) (take_all c.list.user-index c.args.list.now c.list-test.false)

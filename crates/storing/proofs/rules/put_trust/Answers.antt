@@ -1,4 +1,5 @@
 use Rattle.std.proofs.Common.{ℕ, ◌<◌, T, List, map, Decides, subst}
+use Rattle.meaning.specs.Measures.{users}
 use Rattle.meaning.specs.Lists.{listed as named}
 use Rattle.rbac.specs.declared.users.User.{User}
 use Rattle.bounded.specs.Entries.{entries}
@@ -10,7 +11,7 @@ use Rattle.storing.proofs.Parts.{trusted_at}
 use Rattle.storing.proofs.rules.put_trust.Goals as goal
 
 abbrev Somebody : List User → Type 0
-Somebody us = (u : ℕ) × (u < 65536) × T (named (map number_of us) u)
+Somebody us = (u : ℕ) × (u < users) × T (named (map number_of us) u)
 
 pub returns-then-names_somebody : goal.returns-then-names_somebody
 returns-then-names_somebody c =
