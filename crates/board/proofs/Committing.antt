@@ -5,9 +5,9 @@ use Rattle.book.specs.declared.refusal.Cause.{Cause}
 use Rattle.book.specs.declared.refusal.Refusal.{Refusal}
 use Rattle.book.specs.Numbers.{number_of}
 use Rattle.book.specs.Book.{Book}
-use Rattle.book.specs.Refusals.{Any, Least, lent, whole}
-use Rattle.book.specs.Refusals.{None as NoneApplies}
-use Rattle.book.specs.Calls.{LeastOf, ChangeRefuses, line_of, changing, Done}
+use Rattle.book.specs.Refusals.{Any, Least, lent, whole, NoneApplies}
+use Rattle.book.specs.Calls.{changing, ChangeRefuses, WouldMake, RefusedAt, line_of}
+use Rattle.book.specs.Outcomes.{done, Outcome}
 use Rattle.book.proofs.Ladder.{above}
 use Rattle.tables.specs.declared.tables.Tables.{Tables}
 use Rattle.soundness.specs.declared.valid.Valid.{Valid}
@@ -15,30 +15,13 @@ use Rattle.deciding.specs.declared.runs.RunStep.{RunStep}
 use Rattle.drafts.specs.Neat.{Neat}
 use Rattle.drafts.specs.View.{book_of}
 use Rattle.weighing.specs.Weighing.{Passes, Falls}
-use Rattle.board.specs.Lists.{Leaves, WouldMake}
 use Rattle.entering.specs.Changing.{Makeable}
 use Rattle.entering.specs.Opening.{Early}
 use Rattle.board.proofs.Changing.{Lasting}
 
--- a refusal that comes before the whole is weighed is of no requirement, and leaves the list as it was
-pub early_leaves : (Weighs : Book → Type 0) (e : Refusal) (list : List RunStep) → Early e → Leaves Weighs e.cause list list
-early_leaves Weighs e list early = record {
-  others = λ other. refl;
-  failed = λ f is. absurd (let l = subst (λ (c : Cause). number_of c < 15) is early in impossible l);
-}
-  where
-    impossible : 18 < 15 → ⊥
-    impossible l = omega (arith, l)
-
-pub falls_leaves : (Weighs : Book → Type 0) (t : Tables) (list after : List RunStep) (work : ℕ) (c : Cause) → Weighs (book_of t) → Falls t list work c after → Leaves Weighs c list after
-falls_leaves Weighs t list after work c weighs falls = record {
-  others = falls.leaves.others;
-  failed = λ f is. (book_of t, weighs, falls.leaves.failed f is);
-}
-
 -- a whole board is refused at no line, and with a number from 15 on
 from_fifteen : (z : Book) (n : ℕ) → Any (whole z) n → 14 < n
-from_fifteen z n any = above 14 n (whole z) (lit< tt, (lit< tt, (lit< tt, (lit< tt, tt)))) any
+from_fifteen z n any = let h = above 14 n (whole z) (lit< tt, (lit< tt, (lit< tt, (lit< tt, tt)))) any in omega (arith, h)
 
 no_line : (list work : ℕ) (z : Book) (n : ℕ) → Any (lent list work ++ whole z) n → 0 ≡ line_of n
 no_line list work z n (inl (is, h)) = subst (λ (k : ℕ). 0 ≡ line_of k) is refl
@@ -48,22 +31,23 @@ no_line list work z n (inr (inr (inr (inl (is, h))))) = subst (λ (k : ℕ). 0 �
 no_line list work z n (inr (inr (inr (inr (inl (is, h)))))) = subst (λ (k : ℕ). 0 ≡ line_of k) is refl
 no_line list work z n (inr (inr (inr (inr (inr h))))) = absurd h
 
-module _ (b : Book) (text : List ℕ) (list work : ℕ) (z : Book) (made : Makeable b text list work z) where
-  pub would_make : WouldMake b text z
-  would_make = (made.change, made.said, made.makes)
+module _ (b : Book) (text : List ℕ) (list work : ℕ) (z : Book) where
+  module _ (made : Makeable b text list work z) where
+    pub would_make : WouldMake b text z
+    would_make = (made.change, made.said, made.makes)
 
-  refuses : (n : ℕ) → Any (lent list work ++ whole z) n → ChangeRefuses b text list work n
-  refuses n (inl (is, short)) = inl (inr (inr (inr (inr (inr (inl (is, short)))))))
-  refuses n (inr any) = inr (made.change, made.said, inr (z, made.makes, any))
+    refuses : (n : ℕ) → Any (lent list work ++ whole z) n → ChangeRefuses b text list work n
+    refuses n (inl (is, short)) = inl (inr (inr (inr (inr (inr (inl (is, short)))))))
+    refuses n (inr any) = inr (made.change, made.said, inr (z, made.makes, any))
 
-  pub change_refused : (n : ℕ) → Least (lent list work ++ whole z) n → LeastOf (ChangeRefuses b text list work) n × (0 ≡ line_of n)
-  change_refused n x = (
-    record { refuses = refuses n x.applies; least = λ m h. x.least m (inr (made.left m h)) },
-    no_line list work z n x.applies,
-  )
+    pub change_refused : (n : ℕ) → Least (lent list work ++ whole z) n → RefusedAt b (changing text list work) n 0
+    change_refused n x = (
+      record { refuses = refuses n x.applies; least = λ m h. x.least m (inr (made.left m h)) },
+      no_line list work z n x.applies,
+    )
 
-  pub change_done : NoneApplies (lent list work ++ whole z) → Done b (changing text list work) z
-  change_done none = ((λ n h. none.none n (inr (made.left n h))), would_make)
+    pub changed : NoneApplies (lent list work ++ whole z) → Outcome b (changing text list work) done z
+    changed none = ((λ n l refused. none.none n (inr (made.left n refused.0.refuses))), tt, would_make)
 
 -- the board that is committed: its tables are those of the draft
 module _ (t : Tables) (list after : List RunStep) (work : ℕ) (v : Valid) (passes : Passes t list work v after) where

@@ -1,7 +1,8 @@
 // Questions about what can become of the board.
 ghost use Rattle.std.specs.Prelude.{◌≡◌, ℕ, length, slice_index};
 ghost use Rattle.board.specs.View.{says};
-ghost use Rattle.board.specs.Asking.{Asked};
+ghost use Rattle.book.specs.Calls.{asking};
+ghost use Rattle.board.specs.Answers.{Lent, verdict_by};
 
 use crate::board::Board;
 use crate::replies::Answer;
@@ -17,7 +18,7 @@ fn answer(
     list: &mut [RunStep],
     work: &mut [u64],
 ) -> Result<Answer, Refusal>
-    ensures { Asked (says board.now) text.now list.old (length work.old) result list.new }
+    ensures { Lent (asking text.now) list.old (length work.old) (says board.now) (verdict_by result) (says board.now) list.new }
 {
     let inquiry = read_inquiry(text)?;
     let verdict = decide(&board.valid, &inquiry, list, work).or(Err(Cause::TooShort))?;
@@ -28,14 +29,16 @@ fn answer(
 }
 
 impl Board {
-    // Answers the question that the text poses, and lists a run that shows the answer where one does.
+    /// Answers the question that the text poses: its kind and the exact verdict over all that delegates could ever do; or refuses it (docs/REFUSALS.md).
+    ///
+    /// Where a run shows the verdict, it stands at the front of the list, which is else as it was. The list needs 8,512 places and the work table 133 words, every one of which is zero at the end.
     pub fn ask(
         &self,
         text: &[u8],
         list: &mut [RunStep],
         work: &mut [u64],
     ) -> Result<Answer, Refusal>
-        ensures asked { Asked (says self.now) text.now list.old (length work.old) result list.new }
+        ensures outcome { Lent (asking text.now) list.old (length work.old) (says self.now) (verdict_by result) (says self.now) list.new }
         ensures clean { (k : ℕ) → slice_index work.new k ≡ 0 }
     {
         let guard = Work { words: work };

@@ -1,10 +1,11 @@
 // The delegates' calls: one pair is added or removed where a rule permits it. What they do keeps every standing requirement, so nothing is weighed again.
-ghost use Rattle.std.specs.Prelude.{◌≡◌, OnErr};
+ghost use Rattle.std.specs.Prelude.{◌≡◌, [], OnErr};
 ghost use Rattle.tables.specs.View.{policy_of, state_of};
 ghost use Rattle.drafts.specs.View.{book_of};
 ghost use Rattle.book.specs.Calls.{adding, removing};
 ghost use Rattle.board.specs.View.{says};
-ghost use Rattle.board.specs.Answers.{Answered};
+ghost use Rattle.book.specs.Outcomes.{Outcome};
+ghost use Rattle.board.specs.Answers.{done_by};
 ghost use Rattle.board.specs.Delegates.{AddingJudged, RemovingJudged};
 
 use crate::board::Board;
@@ -49,9 +50,9 @@ fn judge_removing(valid: &Valid, actor: User, user: User, role: Role) -> Result<
 }
 
 impl Board {
-    // The actor adds the role to the user.
+    /// The actor adds the role to the user: done, or refused with 9, 10, 12 or 13 and the board as it was (docs/REFUSALS.md).
     pub fn add(&mut self, actor: User, user: User, role: Role) -> Result<(), Refusal>
-        ensures answer { Answered (says self.old) (adding actor.number user.number role.number) result (says self.new) }
+        ensures outcome { Outcome (says self.old) (adding actor.number user.number role.number) (done_by result []) (says self.new) }
         ensures same { OnErr result (self.new ≡ self.old) }
     {
         judge_adding(&self.valid, actor, user, role)?;
@@ -62,9 +63,9 @@ impl Board {
         Ok(())
     }
 
-    // The actor removes the role from the user.
+    /// The actor removes the role from the user: done, or refused with 9, 11 or 12 and the board as it was (docs/REFUSALS.md).
     pub fn remove(&mut self, actor: User, user: User, role: Role) -> Result<(), Refusal>
-        ensures answer { Answered (says self.old) (removing actor.number user.number role.number) result (says self.new) }
+        ensures outcome { Outcome (says self.old) (removing actor.number user.number role.number) (done_by result []) (says self.new) }
         ensures same { OnErr result (self.new ≡ self.old) }
     {
         judge_removing(&self.valid, actor, user, role)?;

@@ -1,9 +1,8 @@
 // Opening a board text, and the officer's change: a draft is made, weighed as a whole, and committed by one assignment.
 ghost use Rattle.std.specs.Prelude.{◌≡◌, ℕ, length, OnErr, slice_index};
-ghost use Rattle.book.specs.Calls.{opening, changing, Reads};
+ghost use Rattle.book.specs.Calls.{opening, changing};
+ghost use Rattle.board.specs.Answers.{Lent, done_by};
 ghost use Rattle.board.specs.View.{says};
-ghost use Rattle.board.specs.Answers.{Answered};
-ghost use Rattle.board.specs.Lists.{Lists, WouldMake};
 
 use crate::board::Board;
 use book::Refusal;
@@ -14,16 +13,17 @@ use verdicts::Work;
 use weighing::weigh;
 
 impl Board {
-    // Replaces all that the board says by what the text says.
+    /// Replaces all that the board says by what the text says, or refuses it and leaves the board as it was (docs/FORMAT.md, docs/REFUSALS.md).
+    ///
+    /// It needs a list of 8,512 places and a work table of 133 words. A refusal 18 writes the run that shows it at the front of the list, which is else as it was; every word of the work table is zero at the end.
     pub fn open(
         &mut self,
         text: &[u8],
         list: &mut [RunStep],
         work: &mut [u64],
     ) -> Result<(), Refusal>
-        ensures answer { Answered (says self.old) (opening text.now (length list.old) (length work.old)) result (says self.new) }
+        ensures outcome { Lent (opening text.now) list.old (length work.old) (says self.old) (done_by result) (says self.new) list.new }
         ensures same { OnErr result (self.new ≡ self.old) }
-        ensures lists { Lists (Reads text.now) list.old result list.new }
         ensures clean { (k : ℕ) → slice_index work.new k ≡ 0 }
     {
         let guard = Work { words: work };
@@ -33,16 +33,17 @@ impl Board {
         Ok(())
     }
 
-    // Makes the officer's change that the text says.
+    /// Makes the officer's change that the text says, or refuses it and leaves the board as it was (docs/FORMAT.md, docs/REFUSALS.md).
+    ///
+    /// List and work table are needed and left as in `open`.
     pub fn change(
         &mut self,
         text: &[u8],
         list: &mut [RunStep],
         work: &mut [u64],
     ) -> Result<(), Refusal>
-        ensures answer { Answered (says self.old) (changing text.now (length list.old) (length work.old)) result (says self.new) }
+        ensures outcome { Lent (changing text.now) list.old (length work.old) (says self.old) (done_by result) (says self.new) list.new }
         ensures same { OnErr result (self.new ≡ self.old) }
-        ensures lists { Lists (WouldMake (says self.old) text.now) list.old result list.new }
         ensures clean { (k : ℕ) → slice_index work.new k ≡ 0 }
     {
         let guard = Work { words: work };

@@ -11,7 +11,7 @@ use meaning::Regime;
 use rbac::{Permission, Role, User};
 
 impl Board {
-    // Under aatu, and nothing else.
+    /// A board under `aatu` that holds nothing else.
     pub fn new() -> Board
         ensures { says result ≡ new_book }
     {
@@ -22,14 +22,14 @@ impl Board {
         }
     }
 
-    // Whether the user is a member of the role.
+    /// Whether the user is a member of the role now: assigned it, or a role senior to it (docs/MEANING.md).
     pub fn is_member(&self, user: User, role: Role) -> bool
         ensures { Decides result (Member (says self.now).policy.edge ((says self.now).state user.number) role.number) }
     {
         self.valid.tables.is_member(user, role)
     }
 
-    // Whether the user has the permission.
+    /// Whether the user has the permission now: is a member of a role that it is given to.
     pub fn has_permission(&self, user: User, permission: Permission) -> bool
         ensures { Decides result (HasPermission (says self.now).policy ((says self.now).state user.number) permission.number) }
     {

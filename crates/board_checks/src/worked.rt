@@ -2,19 +2,24 @@
 use crate::boards::*;
 use crate::calls::*;
 use board::Board;
+use book::Refusal;
 use deciding::RunStep;
 use meaning::{LIST_PLACES, WORK_WORDS};
 use report::{refusal_line, report, report_of};
 use std::process::Abort;
 use std::test::Fail;
-use stories::{Telling, add, tell};
+use stories::{Call, Reply, Story, Turn, add, tell};
 
 type Told = (&'static [u8], &'static [u8]);
 
 fn tells(rt: &impl Abort, board: &Board, cases: &[Told]) -> Result<(), Fail> {
     for (i, (question, beginning)) in cases.iter().enumerate() {
         let mut place = [0u8; PLACE];
-        let size = report_of(board, question, &mut place).ok().ok_or(1)?;
+        let mut list = [RunStep::blank(); LIST_PLACES];
+        let mut work = [0u64; WORK_WORDS];
+        let size = report_of(board, question, &mut list, &mut work, &mut place)
+            .ok()
+            .ok_or(1)?;
         let told = place.get(..size).ok_or(2)?;
         assert!(rt; told.starts_with(beginning), "at {i}");
     }
@@ -92,7 +97,10 @@ fn delegates(rt: HostRuntime) -> Result<(), Fail> {
 #[test]
 fn reports(rt: HostRuntime) -> Result<(), Fail> {
     let mut place = [0u8; PLACE];
-    let size = report(B1, b"possible r4 >= {u1}", &mut place).ok();
+    let mut list = [RunStep::blank(); LIST_PLACES];
+    let mut work = [0u64; WORK_WORDS];
+    let question = b"possible r4 >= {u1}";
+    let size = report(B1, question, &mut list, &mut work, &mut place).ok();
     assert_eq!(rt; size, Some(SHOWN.len()));
     assert!(rt; place.starts_with(SHOWN));
     let cases: [(&[u8], &[u8], &[u8]); 3] = [
@@ -102,7 +110,9 @@ fn reports(rt: HostRuntime) -> Result<(), Fail> {
     ];
     for (text, question, line) in cases {
         let mut short = [7u8; 54];
-        let refusal = report(text, question, &mut short).err().ok_or(1)?;
+        let refusal = report(text, question, &mut list, &mut work, &mut short)
+            .err()
+            .ok_or(1)?;
         assert!(rt; short == [7u8; 54]);
         let size = refusal_line(&mut short, refusal).ok_or(2)?;
         assert!(rt; short.get(..size) == Some(line));
@@ -122,19 +132,35 @@ fn rows_limit_no_run(rt: HostRuntime) -> Result<(), Fail> {
     tells(&rt, &board, &hired)
 }
 
-fn adding(actor: u32, user: u32, role: u32) -> Telling<'static> {
-    Telling::Add { actor, user, role }
+fn turn(call: Call<'static>, list: usize) -> Turn<'static> {
+    Turn {
+        call,
+        list,
+        work: WORK_WORDS,
+        answer: Ok(Reply::Done),
+    }
 }
 
-fn opening(text: &'static [u8], list: usize) -> Telling<'static> {
-    let work = WORK_WORDS;
-    Telling::Open { text, list, work }
+fn adding(actor: u32, user: u32, role: u32) -> Turn<'static> {
+    turn(Call::Add { actor, user, role }, LIST_PLACES)
 }
 
-// The calls that are refused leave the board of a story as it was.
+fn opening(text: &'static [u8], list: usize) -> Turn<'static> {
+    turn(Call::Open(text), list)
+}
+
+// 0 where the call is granted, and else the number of its refusal.
+fn number(answer: Result<Reply, Refusal>) -> u8 {
+    match answer {
+        Ok(_) => 0,
+        Err(refusal) => refusal.cause.number(),
+    }
+}
+
+// The calls that are refused leave the board of a story as it was, and each call is answered on the board that those before it left.
 #[test]
 fn a_story(rt: HostRuntime) -> Result<(), Fail> {
-    let story = [
+    let mut story = [
         opening(B1, LIST_PLACES),
         opening(B2, LIST_PLACES - 1),
         adding(2, 1, 5),
@@ -142,11 +168,32 @@ fn a_story(rt: HostRuntime) -> Result<(), Fail> {
         adding(3, 2, 4),
         opening(b"RBD 1\n", LIST_PLACES),
         adding(3, 1, 4),
+        turn(Call::Ask(b"necessary r4 >= {u1}"), LIST_PLACES),
+        turn(Call::Member { user: 1, role: 5 }, 0),
+        turn(
+            Call::Permission {
+                user: 1,
+                permission: 32,
+            },
+            0,
+        ),
     ];
+    let numbers = [0, 7, 0, 4, 12, 3, 0, 0, 0, 4];
     let mut list = [RunStep::blank(); LIST_PLACES];
     let mut work = [1; WORK_WORDS];
-    let tale = tell(&story, b"necessary r4 >= {u1}", &mut list, &mut work);
-    assert!(rt; tale.answer.ok().ok_or(1)?.verdict.yes);
-    assert!(rt; same(&tale.board, &after(B1, &[b"+ua u1 r4 r5"]).ok_or(2)?));
+    let mut told = Story::new();
+    tell(&mut told, &mut story, &mut list, &mut work);
+    for (turn, expected) in story.iter().zip(numbers.iter()) {
+        assert_eq!(rt; number(turn.answer), *expected);
+    }
+    match story[7].answer {
+        Ok(Reply::Verdict(answer)) => assert!(rt; answer.verdict.yes),
+        _ => return Err(Fail::from(3)),
+    }
+    match story[8].answer {
+        Ok(Reply::Truth(is_so)) => assert!(rt; is_so),
+        _ => return Err(Fail::from(4)),
+    }
+    assert!(rt; same(told.board(), &after(B1, &[b"+ua u1 r4 r5"]).ok_or(2)?));
     Ok(())
 }

@@ -1,3 +1,4 @@
 pub mod Stepping
 pub mod Reporting
 pub mod Opened
+pub mod Answering

@@ -1,16 +1,18 @@
 -- From the opening of a report's board to its report.
-use Rattle.std.proofs.Common.{◌≡◌, ℕ, List, Ok, Err, Result, subst}
+use Rattle.std.proofs.Common.{◌≡◌, ℕ, List, Ok, Err, Result, refl, subst}
 use Rattle.book.specs.declared.refusal.Refusal.{Refusal}
-use Rattle.book.specs.Numbers.{number_of}
 use Rattle.book.specs.Book.{Book, new_book}
-use Rattle.book.specs.Calls.{opening, Done, Refused}
-use Rattle.board.specs.Answers.{Answered}
-use Rattle.report.specs.Opened.{OpenedAndReported, opened, refused}
-use Rattle.report.specs.Reports.{Reported}
+use Rattle.book.specs.Calls.{opening}
+use Rattle.deciding.specs.declared.runs.RunStep.{RunStep}
+use Rattle.board.specs.Answers.{Lent, done_by}
+use Rattle.report.specs.Reports.{OpenedAndReported, opened, not_opened, Reported}
 
-module _ (text question place : List ℕ) (fresh : Book) (new : fresh ≡ new_book) where
-  pub not_opened : (e : Refusal) (z : Book) → Answered fresh (opening text 8512 133) (Err e) z → OpenedAndReported text question place (Err e) place
-  not_opened e z (why, same) = refused (subst (λ (b : Book). Refused b (opening text 8512 133) (number_of e.cause) e.line) new why)
+module _ (text question : List ℕ) (list : List RunStep) (work : ℕ) (place : List ℕ) (fresh : Book) (new : fresh ≡ new_book) (between : List RunStep) (z : Book) where
+  pub turned_away : (e : Refusal) → Lent (opening text) list work fresh (done_by (Err e)) z between → OpenedAndReported text question list work place (Err e) between place
+  turned_away e l =
+      let (why, same) = l.outcome in
+      not_opened (subst (λ (b : Book). Lent (opening text) list work b (done_by (Err e)) b between) new (record { outcome = (why, refl); rest = l.rest }))
 
-  pub reported : (z : Book) → Answered fresh (opening text 8512 133) (Ok tt) z → (r : Result ℕ Refusal) (after : List ℕ) → Reported z question place r after → OpenedAndReported text question place r after
-  reported z done r after told = opened (record { board = z; opened = subst (λ (b : Book). Done b (opening text 8512 133) z) new done; reported = told })
+  pub reported : Lent (opening text) list work fresh (done_by (Ok tt)) z between → (r : Result ℕ Refusal) (left : List RunStep) (after : List ℕ) → Reported z question between work place r left after
+      → OpenedAndReported text question list work place r left after
+  reported granted r left after told = opened z between (subst (λ (b : Book). Lent (opening text) list work b (done_by (Ok tt)) z between) new granted) told

@@ -1,4 +1,3 @@
 pub mod Texts
-pub mod Shown
 pub mod Reports
-pub mod Opened
+pub mod Inputs

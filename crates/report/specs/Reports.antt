@@ -1,55 +1,46 @@
--- A report in the words of the meaning.
-use Rattle.std.specs.Prelude.{◌≡◌, ℕ, ◌<◌, Bool, ◌⊎◌, List, ◌++◌, length, drop, Ok, Err, Decides, Option, MatchOption, Result}
-use Rattle.std.specs.Bool.{beq}
-use Rattle.std.specs.Option.{is_some}
-use Rattle.meaning.specs.Measures.{list_places, work_words}
-use Rattle.meaning.specs.Sets.{Question}
-use Rattle.meaning.specs.Runs.{Change, moves}
-use Rattle.meaning.specs.Witnesses.{Shows}
-use Rattle.meaning.specs.Terms.{IsYes}
-use Rattle.meaning.specs.declared.terms.Kind.{Kind}
-use Rattle.lines.specs.Languages.{Says}
-use Rattle.lines.specs.Lines.{Sentence, questions}
+-- The report on a question, and the line of a refusal, in a place for text.
+use Rattle.std.specs.Prelude.{◌≡◌, ℕ, ◌<◌, ◌≤◌, ◌⊎◌, List, ◌++◌, length, drop, Ok, Err, Result}
 use Rattle.book.specs.declared.refusal.Refusal.{Refusal}
 use Rattle.book.specs.declared.refusal.Cause.TheVariants.{TooShort}
-use Rattle.book.specs.Numbers.{number_of}
 use Rattle.book.specs.Faults.{of_no_line}
-use Rattle.book.specs.Book.{Book}
-use Rattle.book.specs.Calls.{asking, Done, Refused}
-use Rattle.verdicts.specs.Verdict.{sought_by}
-use Rattle.verdicts.specs.Looking.{Sought}
-use Rattle.reading.specs.Posing.{Poses}
+use Rattle.book.specs.Book.{Book, new_book}
+use Rattle.book.specs.Calls.{opening, asking}
+use Rattle.deciding.specs.declared.runs.RunStep.{RunStep}
+use Rattle.board.specs.declared.replies.Answer.{Answer}
+use Rattle.board.specs.Answers.{Lent, done_by, verdict_by, shown_by}
 use Rattle.report.specs.Texts.{report_text}
 
--- this is the report on the question that the text poses: the verdict is exact, and a run shows it where it can be shown
-pub record Reports (b : Book) (text report : List ℕ) : Type 0 where
-  pub done : Done b (asking text list_places work_words) b
-  pub sentence : Sentence
-  pub said : Says questions text sentence
-  pub kind : Kind
-  pub question : Question
-  pub poses : Poses sentence kind question
-  pub verdict : Bool
-  pub exact : Decides verdict (IsYes kind b.policy b.state question)
-  pub run : Option (List Change)
-  pub shown : is_some run ≡ beq verdict (sought_by kind)
-  pub shows : MatchOption run (Unit {0}) (λ xs. Shows (moves b.policy) b.state question (Sought (sought_by kind) b.policy question) list_places xs)
-  pub told : report ≡ report_text kind verdict run
-
--- a report that is longer than the place
-pub record NoPlace (b : Book) (text place : List ℕ) : Type 0 where
-  pub report : List ℕ
-  pub reports : Reports b text report
-  pub longer : length place < length report
+-- asked on this board with this list and so many words, the question is answered, and this is the report on the answer and on the run that the list then holds
+pub record Reports (b : Book) (question : List ℕ) (list : List RunStep) (work : ℕ) (left : List RunStep) (report : List ℕ) : Type 0 where
+  pub answer : Answer
+  pub asked : Lent (asking question) list work b (verdict_by (Ok answer)) b left
+  pub reported : report ≡ report_text answer.kind answer.verdict.yes (shown_by answer.verdict.run left)
 
 -- a report at the front of the place, and all behind it as it was
-pub record ReportedIn (b : Book) (text place : List ℕ) (n : ℕ) (after : List ℕ) : Type 0 where
+pub record ReportedIn (b : Book) (question : List ℕ) (list : List RunStep) (work : ℕ) (place : List ℕ) (n : ℕ) (left : List RunStep) (after : List ℕ) : Type 0 where
   pub report : List ℕ
-  pub reports : Reports b text report
+  pub reports : Reports b question list work left report
   pub all : n ≡ length report
+  pub fits : n ≤ length place
   pub placed : after ≡ report ++ drop (length report) place
 
+-- the report is longer than the place
+pub record NoPlace (b : Book) (question : List ℕ) (list : List RunStep) (work : ℕ) (place : List ℕ) (left : List RunStep) : Type 0 where
+  pub report : List ℕ
+  pub reports : Reports b question list work left report
+  pub longer : length place < length report
+
 -- the report is there; or the place is as it was, and the question is refused or the place is too short
-abbrev pub Reported : Book → List ℕ → List ℕ → Result ℕ Refusal → List ℕ → Type 0
-Reported b text place (Ok n) after = ReportedIn b text place n after
-Reported b text place (Err e) after = (after ≡ place) × (Refused b (asking text list_places work_words) (number_of e.cause) e.line ⊎ ((e ≡ of_no_line TooShort) × NoPlace b text place))
+abbrev pub Reported : Book → List ℕ → List RunStep → ℕ → List ℕ → Result ℕ Refusal → List RunStep → List ℕ → Type 0
+Reported b question list work place (Ok n) left after = ReportedIn b question list work place n left after
+Reported b question list work place (Err e) left after =
+    (after ≡ place)
+    × (Lent (asking question) list work b (verdict_by (Err e)) b left
+    ⊎ ((e ≡ of_no_line TooShort) × NoPlace b question list work place left))
+
+-- the text opens to a board of its own, and the question is reported on it; or the text is refused, and the place is as it was
+pub data OpenedAndReported (text question : List ℕ) (list : List RunStep) (work : ℕ) (place : List ℕ) : Result ℕ Refusal → List RunStep → List ℕ → Type 0 where
+  opened : {result : Result ℕ Refusal} {left : List RunStep} {after : List ℕ} (board : Book) (between : List RunStep) → Lent (opening text) list work new_book (done_by (Ok tt)) board between
+      → Reported board question between work place result left after → OpenedAndReported text question list work place result left after
+  not_opened : {e : Refusal} {left : List RunStep} → Lent (opening text) list work new_book (done_by (Err e)) new_book left
+      → OpenedAndReported text question list work place (Err e) left place

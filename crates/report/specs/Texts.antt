@@ -1,10 +1,14 @@
 -- The lines that tell an answer, a run and a refusal. Byte 10 ends each of them.
-use Rattle.std.specs.Prelude.{ℕ, Bool, true, false, List, [], ◌∷◌, ◌++◌, length, Some, None, codes, decimal, Option}
+use Rattle.std.specs.Prelude.{ℕ, Bool, true, false, List, [], ◌∷◌, ◌++◌, length, take, Some, None, codes, decimal, Option}
 use Rattle.meaning.specs.Runs.{Change, adds, removes}
 use Rattle.meaning.specs.declared.terms.Kind.{Kind}
 use Rattle.meaning.specs.declared.terms.Kind.TheVariants.{Possible, Necessary}
+use Rattle.deciding.specs.declared.runs.RunStep.{RunStep}
+use Rattle.book.specs.declared.refusal.Cause.{Cause}
+use Rattle.book.specs.declared.refusal.Cause.TheVariants.{RequirementFails}
 use Rattle.book.specs.declared.refusal.Refusal.{Refusal}
 use Rattle.book.specs.Numbers.{number_of}
+use Rattle.verdicts.specs.Looking.{as_changes}
 
 abbrev pub kind_word : Kind → List ℕ
 kind_word Possible = codes "possible"
@@ -51,3 +55,8 @@ refusal_text r = codes "refused " ++ (decimal (number_of r.cause) ++ (codes " li
 -- `requirement 1 run 2` and the steps of the run that shows it
 abbrev pub requirement_text : ℕ → List Change → List ℕ
 requirement_text k run = codes "requirement " ++ (decimal k ++ (codes " run " ++ with_run run))
+
+-- a failed requirement with the run that shows it; of no other cause is there more to tell
+abbrev pub failure_text : Cause → List RunStep → List ℕ
+failure_text (RequirementFails k n up) list = requirement_text k (as_changes up (take n list))
+failure_text cause list = []

@@ -2,7 +2,7 @@
 ghost use Rattle.std.specs.Prelude.{◌≡◌};
 ghost use Rattle.pen.specs.Puts.{Wrote};
 ghost use Rattle.report.specs.Texts.{kind_word, yes_word, report_text};
-ghost use Rattle.report.specs.Shown.{shown_by};
+ghost use Rattle.board.specs.Answers.{shown_by};
 
 use crate::runs::{steps_of, write_run};
 use board::Answer;
@@ -25,7 +25,7 @@ fn yes_word(yes: bool) -> &'static [u8]
     if yes { b"yes" } else { b"no" }
 }
 
-// Kind and verdict, and where a run is handed out its length and its steps.
+/// Kind and verdict, and where a run is handed out its length and its steps.
 pub fn write_answer(w: &mut Writer, answer: &Answer, list: &[RunStep])
     ensures { Wrote w.old (report_text answer.now.kind answer.now.verdict.yes (shown_by answer.now.verdict.run list.now)) w.new }
 {

@@ -1,6 +1,6 @@
 // A run, a line for each of its steps.
 ghost use Rattle.std.specs.Prelude.{◌≡◌, take};
-ghost use Rattle.verdicts.specs.Looking.{change_of, changes};
+ghost use Rattle.verdicts.specs.Looking.{change_of, as_changes};
 ghost use Rattle.pen.specs.Puts.{Wrote};
 ghost use Rattle.report.specs.Texts.{does_word, step_text, run_text};
 
@@ -37,7 +37,7 @@ fn write_step(w: &mut Writer, step: RunStep, adds: bool)
 }
 
 pub(crate) fn write_run(w: &mut Writer, run: &[RunStep], adds: bool)
-    ensures { Wrote w.old (run_text (changes adds run.now)) w.new }
+    ensures { Wrote w.old (run_text (as_changes adds run.now)) w.new }
 {
     for step in run {
         write_step(w, *step, adds);

@@ -1,5 +1,5 @@
-pub mod Stepping
-pub mod Promising
 pub mod Changing
+pub mod Only
 pub mod Keeping
-pub mod OneStory
+pub mod Ranging
+pub mod Leading

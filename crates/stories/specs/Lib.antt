@@ -1,4 +1,4 @@
 pub mod Numbered
-pub mod Heard
-pub mod OneStory
-pub mod Promised
+pub mod View
+pub mod Calls
+pub mod Told

@@ -1,11 +1,17 @@
-// Stories: calls in any order, from a new board on, and a question at their end.
+// Stories: calls in any order, from a new board on.
 #![tactic(auto)]
 
-mod hearing;
+mod call;
+mod calling;
+mod calls;
 mod numbers;
-mod tale;
+mod story;
 mod telling;
+mod turn;
 
-pub use numbers::{add, remove};
-pub use tale::{Tale, tell};
-pub use telling::Telling;
+pub use call::{Call, Reply};
+pub use calls::Calls;
+pub use numbers::{add, has_permission, is_member, remove};
+pub use story::Story;
+pub use telling::tell;
+pub use turn::Turn;

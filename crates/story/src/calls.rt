@@ -3,20 +3,13 @@ ghost use Rattle.std.specs.Prelude.{◌≤◌, length};
 ghost use Rattle.grammar.specs.Text.{rest};
 
 use grammar::Reader;
-use meaning::{LIST_PLACES, WORK_WORDS};
-use stories::Telling;
+use stories::Call;
 use texts::board::cut;
 
 // What one line asks for; the text of a board stands in the lines that follow.
 #[derive(Clone, Copy)]
-pub(crate) enum Call<'a> {
-    Open { text: &'a [u8] },
-    Change { text: &'a [u8] },
-    Ask { text: &'a [u8] },
-    Add { actor: u32, user: u32, role: u32 },
-    Remove { actor: u32, user: u32, role: u32 },
-    Member { user: u32, role: u32 },
-    Permission { user: u32, permission: u32 },
+pub(crate) enum Line<'a> {
+    Call(Call<'a>),
     Save,
     Unknown,
 }
@@ -88,38 +81,24 @@ fn board_text<'a>(r: &mut Reader<'a>) -> &'a [u8]
 }
 
 // The call that a line asks for, with the board text that follows it.
-pub(crate) fn read_call<'a>(line: &'a [u8], r: &mut Reader<'a>) -> Call<'a>
+pub(crate) fn read_call<'a>(line: &'a [u8], r: &mut Reader<'a>) -> Line<'a>
     ensures { length (rest r.new) ≤ length (rest r.old) }
 {
     match line.first() {
-        Some(b'+') | Some(b'-') => return Call::Change { text: line },
+        Some(b'+') | Some(b'-') => return Line::Call(Call::Change(line)),
         _ => {}
     }
     if line == b"board".as_slice() {
-        return Call::Open {
-            text: board_text(r),
-        };
+        return Line::Call(Call::Open(board_text(r)));
     }
     if line == b"save".as_slice() {
-        return Call::Save;
+        return Line::Save;
     }
     if line.starts_with(b"possible ") || line.starts_with(b"necessary ") {
-        return Call::Ask { text: line };
+        return Line::Call(Call::Ask(line));
     }
-    numbered(line).unwrap_or(Call::Unknown)
-}
-
-impl<'a> Call<'a> {
-    // The call as a story has it, lent all that it needs; what changes nothing and asks for no run is none of a story's.
-    pub(crate) fn telling(self) -> Option<Telling<'a>> {
-        let (list, work) = (LIST_PLACES, WORK_WORDS);
-        match self {
-            Call::Open { text } => Some(Telling::Open { text, list, work }),
-            Call::Change { text } => Some(Telling::Change { text, list, work }),
-            Call::Ask { text } => Some(Telling::Ask { text, list, work }),
-            Call::Add { actor, user, role } => Some(Telling::Add { actor, user, role }),
-            Call::Remove { actor, user, role } => Some(Telling::Remove { actor, user, role }),
-            Call::Member { .. } | Call::Permission { .. } | Call::Save | Call::Unknown => None,
-        }
+    match numbered(line) {
+        Some(call) => Line::Call(call),
+        None => Line::Unknown,
     }
 }

@@ -1,7 +1,7 @@
 use Rattle.std.proofs.Common.{sym, ap}
 use Rattle.pen.proofs.Join.{join, to}
 use Rattle.report.specs.Texts.{report_text}
-use Rattle.report.specs.Shown.{shown_by}
+use Rattle.board.specs.Answers.{shown_by}
 use Rattle.report.proofs.Stepping.{run_is}
 use Rattle.report.proofs.answers.write_answer.Goals as goal
 

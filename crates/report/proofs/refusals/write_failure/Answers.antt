@@ -1,6 +1,6 @@
 use Rattle.std.proofs.Common.{sym, ap}
 use Rattle.pen.proofs.Join.{join, to}
-use Rattle.report.specs.Shown.{failure_text}
+use Rattle.report.specs.Texts.{failure_text}
 use Rattle.report.proofs.Stepping.{run_is}
 use Rattle.report.proofs.refusals.write_failure.Goals as goal
 

@@ -1,34 +1,44 @@
-use Rattle.std.proofs.Common.{rules, ◌≡◌, length, Err, refl}
+use Rattle.std.proofs.Common.{rules, ◌≡◌, ◌<◌, length, Err, refl, arith}
 use mathlib.Core.Path.{subst⁻¹}
 use Rattle.book.specs.Book.{Book}
 use Rattle.book.specs.Faults.{of_no_line}
 use Rattle.book.specs.Numbers.{number_of}
-use Rattle.book.specs.Calls.{changing, Done}
+use Rattle.book.specs.Calls.{changing}
+use Rattle.book.specs.Outcomes.{done, Outcome}
 use Rattle.drafts.specs.View.{book_of}
 use Rattle.board.specs.View.{says}
-use Rattle.board.specs.Answers.{Answered}
-use Rattle.board.specs.Lists.{Lists, WouldMake}
-use Rattle.board.proofs.Committing.{falls_leaves, would_make, change_refused, change_done, still_neat, now_lasting, as_drafted}
+use Rattle.board.specs.Answers.{Lent, done_by}
+use Rattle.board.proofs.Refusing.{plainly, weighed}
+use Rattle.board.proofs.Committing.{would_make, change_refused, changed, still_neat, now_lasting, as_drafted}
 use Rattle.board.proofs.board.Board.change.Goals as goal
 
-pub returns-in_err-valid-clause-answer : goal.returns-in_err-valid-clause-answer
-returns-in_err-valid-clause-answer c =
-    let cause = c.in_err-valid.field-0.0 in
+pub returns-in_err-draft-clause-outcome : goal.returns-in_err-draft-clause-outcome
+returns-in_err-draft-clause-outcome c =
+    let e = c.in_err-draft.field-0.0 in
     let b = says c.args.self.now in
-    let z = book_of c.in_ok-draft.draft.tables in
-    let q : c.from_residual-in_err-valid.result ≡ Err (of_no_line cause) = search rules in
-    subst⁻¹ (λ r. Answered b (changing c.args.text.now (length c.args.list.now) (length c.args.work.now)) r b) q
-    (change_refused b c.args.text.now (length c.args.list.now) (length c.args.work.now) z c.in_ok-draft.ensures (number_of cause) c.in_err-valid.ensures.weighed.least, refl)
+    let list = c.args.list.now in
+    let call = changing c.args.text.now (length list) (length c.args.work.now) in
+    let (least, line, early) = c.in_err-draft.ensures in
+    let x = plainly b call e.line list list e.cause (λ is. omega (arith, early, is)) (least, line) refl in
+    let q : c.from_residual.result ≡ Err e = search rules in
+    subst⁻¹ (λ r. Lent (changing c.args.text.now) list (length c.args.work.now) b (done_by r) b list) q
+    (record { outcome = (x.is, refl); rest = x.rest })
 
-pub returns-in_err-valid-clause-lists : goal.returns-in_err-valid-clause-lists
-returns-in_err-valid-clause-lists c =
+pub returns-in_err-valid-clause-outcome : goal.returns-in_err-valid-clause-outcome
+returns-in_err-valid-clause-outcome c =
     let cause = c.in_err-valid.field-0.0 in
     let b = says c.args.self.now in
+    let list = c.args.list.now in
+    let work = length c.args.work.now in
     let z = book_of c.in_ok-draft.draft.tables in
+    let call = changing c.args.text.now (length list) work in
+    let falls = c.in_err-valid.ensures.weighed in
+    let makes = would_make b c.args.text.now (length list) work z c.in_ok-draft.ensures in
+    let at = change_refused b c.args.text.now (length list) work z c.in_ok-draft.ensures (number_of cause) falls.least in
+    let x = weighed b call 0 list c.weigh.new.list z makes cause at falls.leaves in
     let q : c.from_residual-in_err-valid.result ≡ Err (of_no_line cause) = search rules in
-    subst⁻¹ (λ r. Lists (WouldMake b c.args.text.now) c.args.list.now r c.weigh.new.list) q
-    (falls_leaves (WouldMake b c.args.text.now) c.in_ok-draft.draft.tables c.args.list.now c.weigh.new.list _ cause
-    (would_make b c.args.text.now (length c.args.list.now) (length c.args.work.now) z c.in_ok-draft.ensures) c.in_err-valid.ensures.weighed)
+    subst⁻¹ (λ r. Lent (changing c.args.text.now) list work b (done_by r) b c.weigh.new.list) q
+    (record { outcome = (x.is, refl); rest = x.rest })
 
 pub invariant_of-self : goal.invariant_of-self
 invariant_of-self c =
@@ -38,10 +48,16 @@ invariant_of-self c =
       lasting = now_lasting t c.args.list.now c.weigh.new.list _ c.in_ok-valid.valid c.in_ok-valid.ensures.weighed;
     }
 
-pub returns-clause-answer : goal.returns-clause-answer
-returns-clause-answer c =
+pub returns-clause-outcome : goal.returns-clause-outcome
+returns-clause-outcome c =
     let b = says c.args.self.now in
     let z = book_of c.in_ok-draft.draft.tables in
-    as_drafted c.in_ok-draft.draft.tables c.args.list.now c.weigh.new.list _ c.in_ok-valid.valid c.in_ok-valid.ensures.weighed
-    (λ (y : Book). Done b (changing c.args.text.now (length c.args.list.now) (length c.args.work.now)) y)
-    (change_done b c.args.text.now (length c.args.list.now) (length c.args.work.now) z c.in_ok-draft.ensures c.in_ok-valid.ensures.weighed.none)
+    let list = length c.args.list.now in
+    let work = length c.args.work.now in
+    let passes = c.in_ok-valid.ensures.weighed in
+    record {
+      outcome = as_drafted c.in_ok-draft.draft.tables c.args.list.now c.weigh.new.list _ c.in_ok-valid.valid passes
+          (λ (y : Book). Outcome b (changing c.args.text.now list work) done y)
+          (changed b c.args.text.now list work z c.in_ok-draft.ensures passes.none);
+      rest = passes.kept;
+    }
