@@ -278,13 +278,15 @@ found s x p w n =
     ∙ stops (at Sign 0 (grow 0 empty (size_of p))) x x (pick_not 124 x _ _ n.no_or ∙ pick_not 38 x _ _ n.no_and)
     ∙ ap (λ z. ok z x) (grow_none (size_of p))
 
--- what a call tells that answers as the scanning does
-pub scanned_is : (s x : List ℕ) (r : Option Size) → scanned (at Operand 0 empty) s ≡ heard r x → Scanned s r x
-scanned_is s x (Some m) h = record {
+-- what a call tells that answers as the scanning does, and takes nothing where there is no set
+pub scanned_is : (s x : List ℕ) (r : Option Size) → scanned (at Operand 0 empty) s ≡ heard r x → (r ≡ None → x ≡ s) → Scanned s r x
+scanned_is s x (Some m) h same = record {
   found = λ p y w n. let e : ok m x ≡ ok (size_of p) y = sym h ∙ found s y p w n in let a : m ≡ size_of p = cc in (ap Some a, cc);
   real = λ z e. let b : m ≡ z = cc in let f = sound s x m h in (f.0, f.1, sym b ∙ f.2);
+  kept = same;
 }
-scanned_is s x None h = record {
+scanned_is s x None h same = record {
   found = λ p y w n. let e : no ≡ ok (size_of p) y = sym h ∙ found s y p w n in cc;
   real = λ z e. cc;
+  kept = same;
 }

@@ -86,10 +86,11 @@ abbrev pub heard : Option Size → List ℕ → Out
 heard (Some m) x = ok m x
 heard None x = no
 
--- what a scanning tells of the text: a set that stands there is found with its size and its end, and what is found is real
+-- what a scanning tells of the text: a set that stands there is found with its size and its end, what is found is real, and where none is found nothing is taken
 pub record Scanned (s : List ℕ) (r : Option Size) (after : List ℕ) : Type 0 where
   pub found : (p : Phrase set) (x : List ℕ) → Written s p x → Ends x → (r ≡ Some (size_of p)) × (after ≡ x)
   pub real : (m : Size) → r ≡ Some m → (p : Phrase set) × (Written s p after) × (m ≡ size_of p)
+  pub kept : r ≡ None → after ≡ s
 
 -- each count has room for the bytes that are left
 pub record Room (q : State) (s : List ℕ) : Type 0 where

@@ -1,5 +1,5 @@
 // What a reader takes from its text: tokens, numbers, signs and words.
-ghost use Rattle.std.specs.Prelude.{◌≡◌, ℕ, ◌≤◌, true, false, [], ◌∷◌, length, ◌<◌, slice_index};
+ghost use Rattle.std.specs.Prelude.{◌≡◌, ℕ, ◌≤◌, true, false, [], ◌∷◌, length, ◌<◌, slice_index, IfNone};
 ghost use Rattle.grammar.specs.Text.{rest, ahead, behind, begins, is_digit, is_letter, run, number as number_of, taken, Reads, Takes};
 
 use crate::reader::Reader;
@@ -62,8 +62,20 @@ impl<'a> Reader<'a> {
         Token { part, line }
     }
 
-    /// Takes a number if one stands next.
+    /// Takes a number if one stands next; where none does, nothing is taken.
     pub fn number(&mut self) -> Option<u32>
+        ensures read { number_of (rest self.old) ≡ taken result (rest self.new) }
+        ensures less { length (rest self.new) ≤ length (rest self.old) }
+        ensures kept { IfNone result (rest self.new ≡ rest self.old) }
+    {
+        let mut ahead = Reader::new(self.rest(), self.line());
+        let number = ahead.token_number()?;
+        *self = ahead;
+        Some(number)
+    }
+
+    // Takes the token that stands next: its number, if it is one.
+    fn token_number(&mut self) -> Option<u32>
         ensures read { number_of (rest self.old) ≡ taken result (rest self.new) }
         ensures less { length (rest self.new) ≤ length (rest self.old) }
     {

@@ -4,7 +4,7 @@ ghost use Rattle.grammar.specs.Text.{rest, is_nil, Cut};
 
 use std::marker::Model;
 
-/// A caller sees of a reader only the bytes that are left and its line, so no call has to promise that the text stays.
+/// A caller sees of a reader only the bytes that are left and its line.
 #[derive(Drop)]
 pub struct Reader<'a> {
     text: &'a [u8],

@@ -1,6 +1,6 @@
 ghost use Rattle.std.specs.Prelude.{◌≡◌, ◌+◌, ◌^◌, ◌<◌, ◌≤◌};
 ghost use Rattle.grammar.specs.Text.{rest, number as number_of};
-ghost use Rattle.grammar.specs.Scan.{leaf_by, step_at, user_step, step as step_of, told, Room, Scanned};
+ghost use Rattle.grammar.specs.Scan.{leaf_by, step_at, user_step, step as step_of, told, at, heard, scanned, empty, Room, Scanned};
 ghost use Rattle.grammar.specs.declared.sizes.Mode.TheVariants.{Operand, Sign, Comma};
 
 use crate::reader::Reader;
@@ -177,9 +177,20 @@ fn step(r: &mut Reader, at: State) -> Step
     }
 }
 
-/// Scans the set at the place, of any depth, and goes to its end.
+/// Scans the set at the place, of any depth, and goes to its end; where no set stands there, nothing
+/// is taken.
 pub fn scan(r: &mut Reader) -> Option<Size>
     ensures { Scanned (rest r.old) result (rest r.new) }
+{
+    let mut ahead = Reader::new(r.rest(), r.line());
+    let size = scan_steps(&mut ahead)?;
+    *r = ahead;
+    Some(size)
+}
+
+// All steps of the scanning, as far as they go.
+fn scan_steps(r: &mut Reader) -> Option<Size>
+    ensures { scanned (at Operand 0 empty) (rest r.old) ≡ heard result (rest r.new) }
 {
     // No count of the bytes that are left can wrap, since their slice has a length.
     let _left = r.rest();

@@ -1,5 +1,5 @@
 // Lists of roles and of users that end a line.
-ghost use Rattle.std.specs.Prelude.{◌≡◌, ℕ, ◌+◌, ◌<◌, ◌≤◌, min, Bool, false, ◌&&◌, List, [], ◌∷◌, ◌++◌, length, take, Option, Some, None, MatchOption};
+ghost use Rattle.std.specs.Prelude.{◌≡◌, ℕ, ◌+◌, ◌<◌, ◌≤◌, min, Bool, false, ◌&&◌, List, [], ◌∷◌, ◌++◌, length, take, Option, Some, None, IfNone, MatchOption};
 ghost use Rattle.bounded.specs.Entries.{entries as kept};
 ghost use Rattle.meaning.specs.Measures.{users as all_users, trusted_users};
 ghost use Rattle.grammar.specs.Text.{rest, taken};
@@ -16,12 +16,16 @@ use rbac::{Role, RoleSet, User};
 use trees::no_nodes;
 use words::{has, put};
 
-/// A blank, a letter and a number.
+/// A blank, a letter and a number; where these do not stand next, nothing is taken.
 pub fn entry(r: &mut Reader, letter: u8) -> Option<u32>
     ensures read { entry_at letter (rest r.old) ≡ taken result (rest r.new) }
+    ensures kept { IfNone result (rest r.new ≡ rest r.old) }
 {
-    if r.take(b' ') && r.take(letter) {
-        r.number()
+    let mut ahead = Reader::new(r.rest(), r.line());
+    if ahead.take(b' ') && ahead.take(letter) {
+        let number = ahead.number()?;
+        *r = ahead;
+        Some(number)
     } else {
         None
     }
@@ -42,19 +46,23 @@ impl Names {
 
 /// The roles of a list that goes on to the end of the text, and of these none where one is out of range. Such a role
 /// doesn't end the list: a fault in how the rest is written is refused first, so that all of it is read. An Option in an
-/// Option: whether it is a list, and whether its roles are in range; a row and an assign rule rank the two apart.
+/// Option: whether it is a list, and whether its roles are in range; a row and an assign rule rank the two apart. Where it
+/// is no list, nothing is taken.
 pub fn roles(r: &mut Reader) -> Option<Option<Names>>
     ensures read { Listed 114 Noted (rest r.old) result }
+    ensures left { MatchOption result (rest r.new ≡ rest r.old) (λ _. rest r.new ≡ []) }
 {
+    let mut ahead = Reader::new(r.rest(), r.line());
     let mut names = Some(Names {
         roles: RoleSet::empty(),
         twice: false,
     });
     // What is read says where the list ends, so there is nothing to iterate over.
     'entries: loop {
-        let number = entry(r, b'r')?;
+        let number = entry(&mut ahead, b'r')?;
         names = names.and_then(|names| names.with(number));
-        if r.is_at_end() {
+        if ahead.is_at_end() {
+            *r = ahead;
             return Some(names);
         }
     }

@@ -2,10 +2,13 @@
 #![tactic(auto)]
 
 use grammar::Reader;
+use grammar::scan::scan;
 use lines::Extra;
+use lines::lists::{entry, roles};
 use texts::Fault;
 use texts::alone::{read_change, read_question};
 use texts::board::{begin, next};
+use trees::read::side;
 
 const LINES: usize = 65536;
 
@@ -45,6 +48,38 @@ pub(crate) fn board(text: &[u8]) -> (u8, usize) {
         Ok(()) => (0, 0),
         Err(fault) => (fault.number(), fault.line()),
     }
+}
+
+// How many bytes a reader has left that was asked for a number, for the size of a set, for a set of at most 8 levels, for an
+// entry of a list of roles, or for a whole list.
+pub(crate) fn left_by_number(text: &[u8]) -> usize {
+    let mut r = Reader::new(text, 1);
+    let _ = r.number();
+    r.rest().len()
+}
+
+pub(crate) fn left_by_scan(text: &[u8]) -> usize {
+    let mut r = Reader::new(text, 1);
+    let _ = scan(&mut r);
+    r.rest().len()
+}
+
+pub(crate) fn left_by_side(text: &[u8]) -> usize {
+    let mut r = Reader::new(text, 1);
+    let _ = side(&mut r, 8);
+    r.rest().len()
+}
+
+pub(crate) fn left_by_entry(text: &[u8]) -> usize {
+    let mut r = Reader::new(text, 1);
+    let _ = entry(&mut r, b'r');
+    r.rest().len()
+}
+
+pub(crate) fn left_by_roles(text: &[u8]) -> usize {
+    let mut r = Reader::new(text, 1);
+    let _ = roles(&mut r);
+    r.rest().len()
 }
 
 // How many users the first line behind the regime trusts, and whether one is named twice.
@@ -102,7 +137,10 @@ fn digit(n: u32) -> u8 {
 
 #[cfg(test)]
 mod tests {
-    use crate::{board, change, fill, many_users, put, question, trusted};
+    use crate::{
+        board, change, fill, left_by_entry, left_by_number, left_by_roles, left_by_scan,
+        left_by_side, many_users, put, question, trusted,
+    };
 
     #[test]
     fn questions(rt: HostRuntime) {
@@ -210,6 +248,21 @@ mod tests {
         assert_eq!(rt; board(b"RBD 1\nregime aatu\nua u1 r1\n\n"), (3, 4));
         assert_eq!(rt; board(b"RBD 1\nregime aatu\nua u1 r64\nua\n"), (4, 3));
         assert_eq!(rt; board(b"RBD 1\nregime aatu\nua u1 r1\r\n"), (3, 3));
+    }
+
+    #[test]
+    fn what_does_not_stand_there_is_not_taken(rt: HostRuntime) {
+        assert_eq!(rt; left_by_number(b"r12 x"), 5);
+        assert_eq!(rt; left_by_number(b"012 x"), 5);
+        assert_eq!(rt; left_by_number(b"12 x"), 2);
+        assert_eq!(rt; left_by_scan(b"(r1|r2&x"), 8);
+        assert_eq!(rt; left_by_scan(b"(r1|r2) x"), 2);
+        assert_eq!(rt; left_by_side(b"(r1|r64) x"), 10);
+        assert_eq!(rt; left_by_side(b"(r1|r2) x"), 2);
+        assert_eq!(rt; left_by_entry(b" r01"), 4);
+        assert_eq!(rt; left_by_entry(b" r1 r2"), 3);
+        assert_eq!(rt; left_by_roles(b" r1 r2 u3"), 9);
+        assert_eq!(rt; left_by_roles(b" r1 r2"), 0);
     }
 
     #[test]

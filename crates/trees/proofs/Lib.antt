@@ -3,3 +3,4 @@ pub mod Build
 pub mod Whole
 pub mod Turns
 pub mod Single
+pub mod Leaving

@@ -119,6 +119,10 @@ pub record Small (k : ℕ) (p : Phrase set) : Type 0 where
   pub deep : levels p ≤ k
   pub many : operands (meaning p) ≤ measures.question_operands
 
+-- some of the text, or nothing, was read, and the rest is left
+abbrev pub LeftOf : List ℕ → List ℕ → Type 0
+LeftOf s left = (before : List ℕ) × (s ≡ before ++ left)
+
 -- a text begins with one small set only, whatever phrases it is taken for
 abbrev pub OneReading : ℕ → List ℕ → Type 0
 OneReading k s = (x y : List ℕ) (p q : Phrase set) → Small k p → Small k q → Written s p x → Written s q y → Ends x → Ends y → (meaning p ≡ meaning q) × (x ≡ y)

@@ -1,6 +1,6 @@
-ghost use Rattle.std.specs.Prelude.{◌≡◌, ℕ, ◌<◌, List};
+ghost use Rattle.std.specs.Prelude.{◌≡◌, ℕ, ◌<◌, List, MatchOption};
 ghost use Rattle.grammar.specs.Text.{rest};
-ghost use Rattle.trees.specs.Reading.{Built, OneReading, told, add, leaf_at, user_at, users_at, braces_at, set_at, term_at, factor_at, nodes_in};
+ghost use Rattle.trees.specs.Reading.{Built, LeftOf, OneReading, told, add, leaf_at, user_at, users_at, braces_at, set_at, term_at, factor_at, nodes_in};
 ghost use Rattle.trees.specs.Builds.{Builds};
 ghost use Rattle.trees.specs.declared.nodes.Node.{Node as ANode};
 
@@ -145,9 +145,11 @@ impl<'a> Builder<'a> {
 }
 
 /// Reads the set at the place into nodes, and leaves what follows it. There is none where no set stands there whose numbers
-/// are in range, with at most so many levels of parentheses and at most 32 operands. Such a text begins with one set only.
+/// are in range, with at most so many levels of parentheses and at most 32 operands; then nothing is taken. Such a text
+/// begins with one set only.
 pub fn side(r: &mut Reader, levels: u8) -> Option<Nodes>
     ensures built { Built levels (rest r.old) result (rest r.new) }
+    ensures left { MatchOption result (rest r.new ≡ rest r.old) (λ _. LeftOf (rest r.old) (rest r.new)) }
     ensures one { OneReading levels (rest r.old) }
 {
     let mut builder = Builder {

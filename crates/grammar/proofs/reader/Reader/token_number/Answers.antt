@@ -1,7 +1,7 @@
 use Rattle.std.proofs.Common.{⊎_elim}
 use Rattle.grammar.specs.Text.{rest}
 use Rattle.grammar.proofs.Digits.{digits_whole, digits_number, number_cut, word_none, sign_none, end_none, reads_less}
-use Rattle.grammar.proofs.reader.Reader.number.Goals as goal
+use Rattle.grammar.proofs.reader.Reader.token_number.Goals as goal
 
 pub value_of-requires : goal.value_of-requires
 value_of-requires c = digits_whole (rest c.args.self.now) _ (number_cut _ _ _ _ c.in-Number.is c.token.ensures.read).0
