@@ -237,3 +237,20 @@ fn later_entries_move_down(rt: HostRuntime) {
     assert!(rt; list.remove(0) == None);
     assert!(rt; list.push(15).is_ok());
 }
+
+#[test]
+fn an_entry_is_replaced_in_its_place(rt: HostRuntime) {
+    let mut list: Bounded<u32, 4> = Bounded::of([10, 11, 12, 13], 3);
+    assert_eq!(rt; list.entries().len(), 3);
+    assert!(rt; list.replace(1, 21) == Some(11));
+    assert!(rt; list.get(0) == Some(10));
+    assert!(rt; list.get(1) == Some(21));
+    assert!(rt; list.get(2) == Some(12));
+    assert!(rt; list.replace(3, 23) == None);
+    assert!(rt; list.get(3) == None);
+    let past: Bounded<u32, 4> = Bounded::of([10, 11, 12, 13], 9);
+    assert_eq!(rt; past.entries().len(), 4);
+    assert!(rt; past.get(3) == Some(13));
+    let none: Bounded<u32, 4> = Bounded::of([10, 11, 12, 13], 0);
+    assert!(rt; none.get(0) == None);
+}
