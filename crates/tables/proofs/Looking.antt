@@ -1,31 +1,47 @@
--- The rows of a user are the user's part of the state.
-use Rattle.std.proofs.Common.{◌≡◌, ℕ, ◌<◌, Bool, ◌&&◌, ◌||◌, T, ltb, List, [], ◌∷◌, Decides, sym, refl, ap, ◌∙◌, subst, lt→ltb}
+-- The row that is found is the user's part of the state.
+use Rattle.std.proofs.Common.{◌≡◌, ℕ, ◌<◌, Bool, false, ◌&&◌, T, eqb, ltb, position, Some, None, Decides, sym, subst, ⊎_elim, eqb→eq, lt→ltb}
+use Rattle.std.proofs.lemmas.Bool.{cases_eq, eq-eqb}
 use mathlib.Core.Path.{subst⁻¹, fun_ext}
 use Rattle.meaning.specs.Measures.{users}
 use Rattle.meaning.specs.Membership.{Member}
 use Rattle.meaning.specs.Sets.{HasPermission}
-use Rattle.meaning.proofs.Tests.{as_true, as_test}
+use Rattle.meaning.proofs.Tests.{first, second, both, agree, as_true, as_test}
 use Rattle.rbac.specs.declared.sets.RoleSet.{RoleSet}
-use Rattle.rbac.specs.Roles.{roles_of}
+use Rattle.rbac.specs.Roles.{roles_of, no_role}
 use Rattle.tables.specs.declared.entries.Row.{Row}
 use Rattle.tables.specs.declared.tables.Tables.{Tables}
+use Rattle.tables.specs.Rows.{row_at, is_of}
 use Rattle.tables.specs.View.{assigned, rows_of, state_of, policy_of}
-use Rattle.tables.proofs.Listing.{any}
-use Rattle.tables.proofs.Placing.{says}
+use Rattle.tables.proofs.Placing.{assigned_gives, assigned_at}
+use Rattle.tables.proofs.Rowing.{not_of, none_at, holder_gives, found_inside, found_number, found_alone}
 
--- what these rows assign to one user
-abbrev pub saying : ℕ → Row → ℕ → Bool
-saying u x r = says x u r
-
-assigned_any : (rows : List Row) (u r : ℕ) → any (saying u) rows r ≡ assigned rows u r
-unfolding assigned
-assigned_any [] u r = refl
-assigned_any (x ∷ xs) u r = ap (λ b. says x u r || b) (assigned_any xs u r)
-
--- all rows are passed
-pub rows_passed : (t : Tables) (u : ℕ) → u < users → (s : ℕ → Bool) → ((r : ℕ) → s r ≡ any (saying u) (rows_of t) r) → s ≡ state_of t u
+-- the row that is found is the user's part of the state
+pub row_found : (t : Tables) (u i : ℕ) → u < users → position (is_of u) (rows_of t) ≡ Some i → roles_of (row_at (rows_of t) i).roles ≡ state_of t u
 unfolding state_of
-rows_passed t u small s is = fun_ext (λ r. is r ∙ assigned_any (rows_of t) u r ∙ ap (λ b. b && assigned (rows_of t) u r) (sym (as_true (ltb u users) (lt→ltb u users small))))
+row_found t u i small at = fun_ext (λ r. agree (roles_of x.roles r) (ltb u users && assigned (rows_of t) u r) (there r) (back r))
+  where
+    x : Row
+    x = row_at (rows_of t) i
+
+    there : (r : ℕ) → T (roles_of x.roles r) → T (ltb u users && assigned (rows_of t) u r)
+    there r h = both (ltb u users) (assigned (rows_of t) u r) (lt→ltb u users small)
+        (assigned_at (rows_of t) u r i (found_inside (rows_of t) i u at) (both (eqb u x.user.number) (roles_of x.roles r) (as_test (eqb u x.user.number) (eq-eqb u x.user.number (sym (found_number (rows_of t) i u at)))) h))
+
+    back : (r : ℕ) → T (ltb u users && assigned (rows_of t) u r) → T (roles_of x.roles r)
+    back r h =
+        let (j, l, s) = assigned_gives (rows_of t) u r (second (ltb u users) (assigned (rows_of t) u r) h) in
+        let y = row_at (rows_of t) j in
+        let has : T (roles_of y.roles r) = second (eqb u y.user.number) (roles_of y.roles r) s in
+        let his : u ≡ y.user.number = eqb→eq u y.user.number (first (eqb u y.user.number) (roles_of y.roles r) s) in
+        ⊎_elim
+        (λ (e : j ≡ i). subst (λ (k : ℕ). T (roles_of (row_at (rows_of t) k).roles r)) e has)
+        (λ (ne : j ≡ i → ⊥). absurd (found_alone (rows_of t) i u at t.rows.apart j ne l (r, has) (sym his)))
+        (cases_eq j i)
+
+-- where none is found, no role is assigned to the user
+pub row_none : (t : Tables) (u : ℕ) → position (is_of u) (rows_of t) ≡ None → no_role ≡ state_of t u
+row_none t u none = fun_ext (λ r. agree false (state_of t u r) (λ h. absurd h)
+    (λ h. let (j, l, used, e) = holder_gives t u (r, h) in not_of u (row_at (rows_of t) j) (none_at (is_of u) (rows_of t) none j l) used (sym e)))
 
 -- a permission is had where its roles and the user's memberships meet
 pub permission_told : (t : Tables) (u n : ℕ) (row given reached : RoleSet) (r : Bool) → roles_of given ≡ (policy_of t).gives n

@@ -56,7 +56,7 @@ not_true true e f = both_ways false refl e
 not_true false e f = both_ways false refl f
 
 -- a search that finds nothing
-none_at : (p : Row → Bool) (xs : List Row) → position p xs ≡ None → (k : ℕ) → k < length xs → p (row_at xs k) ≡ false
+pub none_at : (p : Row → Bool) (xs : List Row) → position p xs ≡ None → (k : ℕ) → k < length xs → p (row_at xs k) ≡ false
 none_at p xs e k l = let past : length xs ≤ position_or_len p xs = grind (arith, common_steps) in fails_before_first p xs k no_row (omega arith)
 
 module _ (t : Tables) (i : ℕ) (lt : i < length (rows_of t)) (u : User) (rs : RoleSet) (x : Row) (small : u.number < users) (given : Given u rs (row_at (rows_of t) i) x) where
@@ -127,11 +127,11 @@ module _ (list : List Row) (i u : ℕ) (at : position (is_of u) list ≡ Some i)
   found_used : Used (row_at list i)
   found_used = (of_used u (row_at list i) (position-Some (is_of u) list i no_row at).1).0
 
-  found_number : (row_at list i).user.number ≡ u
+  pub found_number : (row_at list i).user.number ≡ u
   found_number = (of_used u (row_at list i) (position-Some (is_of u) list i no_row at).1).1
 
   -- no other row is the user's
-  found_alone : OneRowEach list → (j : ℕ) → j ≢ i → j < length list → Used (row_at list j) → (row_at list j).user.number ≡ u → ⊥
+  pub found_alone : OneRowEach list → (j : ℕ) → j ≢ i → j < length list → Used (row_at list j) → (row_at list j).user.number ≡ u → ⊥
   found_alone apart j ne l used e = ⊎_elim
       (λ (h : j < i). apart j i (h, found_inside, used, found_used, e ∙ sym found_number))
       (λ (h : i ≤ j). apart i j (omega (arith, ne), l, found_used, used, found_number ∙ sym e))

@@ -1,36 +1,22 @@
 // Of which roles a user is a member, and which permissions that gives.
-ghost use Rattle.std.specs.Prelude.{◌≡◌, ℕ, ◌&&◌, Decides, ◌==◌};
+ghost use Rattle.std.specs.Prelude.{◌≡◌, Decides};
 ghost use Rattle.meaning.specs.Membership.{Member};
 ghost use Rattle.meaning.specs.Sets.{HasPermission};
 ghost use Rattle.rbac.specs.Roles.{roles_of};
 ghost use Rattle.tables.specs.View.{state_of, policy_of};
 
-use crate::entries::Row;
 use crate::tables::Tables;
 use rbac::{Permission, Role, RoleSet, User};
-
-impl Row {
-    // The row's roles, where it is this user's.
-    fn roles_of(&self, user: User) -> RoleSet
-        ensures { (r : ℕ) → roles_of result r ≡ (user.number == self.now.user.number && roles_of self.now.roles r) }
-    {
-        if self.user == user {
-            self.roles
-        } else {
-            RoleSet::empty()
-        }
-    }
-}
 
 impl Tables {
     /// The roles assigned to a user.
     pub fn assigned(&self, user: User) -> RoleSet
         ensures { roles_of result ≡ state_of self.now user.number }
     {
-        self.rows.entries().iter().fold(
-            RoleSet::empty(),
-            |roles, row| roles.union(row.roles_of(user)),
-        )
+        match self.rows.place_of(user) {
+            Some(place) => self.rows.entries()[place].roles,
+            None => RoleSet::empty(),
+        }
     }
 
     pub fn is_member(&self, user: User, role: Role) -> bool

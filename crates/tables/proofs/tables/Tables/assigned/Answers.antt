@@ -1,12 +1,11 @@
-use Rattle.std.proofs.Common.{rules, ◌∙◌}
+use Rattle.std.proofs.Common.{rules, sym, ap, ◌∙◌}
 use Rattle.rbac.specs.Roles.{roles_of}
-use Rattle.tables.specs.View.{rows_of}
-use Rattle.tables.proofs.Gathering.{gathered}
-use Rattle.tables.proofs.Looking.{saying, rows_passed}
+use Rattle.tables.specs.Rows.{row_at}
+use Rattle.tables.proofs.Looking.{row_found, row_none}
 use Rattle.tables.proofs.tables.Tables.assigned.Goals as goal
 
-pub returns : goal.returns
-returns c =
-    let u = c.args.user.number in
-    rows_passed c.args.self.now u (search rules) (roles_of c.fold.result)
-    (gathered _ _ (saying u) (λ a x b f' k. (search rules, search rules)) c.iter.result (rows_of c.args.self.now) (c.iter.ensures.rest ∙ c.entries.ensures.all) _ _ c.empty.ensures c.fold.ensures.ran)
+pub returns-in-Some : goal.returns-in-Some
+returns-in-Some c = ap (λ xs. roles_of (row_at xs c.in-Some.place).roles) c.entries.ensures.all ∙ row_found c.args.self.now c.args.user.number c.in-Some.place (search rules) (sym c.place_of.ensures ∙ c.in-Some.is)
+
+pub returns-in-None : goal.returns-in-None
+returns-in-None c = c.empty.ensures ∙ row_none c.args.self.now c.args.user.number (sym c.place_of.ensures ∙ c.in-None.is)
