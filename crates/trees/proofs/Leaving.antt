@@ -10,7 +10,7 @@ use Rattle.trees.specs.Reading.{LeftOf, most_nodes, Res, ok, bad, Reading, and_t
 abbrev Leaves : Reading → Type 0
 Leaves f = (s x : List ℕ) (ns ms : List Node) → f s ns ≡ ok x ms → LeftOf s x
 
-all_left : (s x : List ℕ) → x ≡ s → LeftOf s x
+pub all_left : (s x : List ℕ) → x ≡ s → LeftOf s x
 all_left s x e = ([], sym e)
 
 further : (s x y : List ℕ) → LeftOf s x → LeftOf x y → LeftOf s y

@@ -1,5 +1,4 @@
-use Rattle.std.proofs.Common.{Some, None, refl, ap, ◌∙◌, sym}
-use Rattle.grammar.specs.Text.{rest}
+use Rattle.std.proofs.Common.{Some, None, ap, ◌∙◌, sym, rules}
 use Rattle.grammar.specs.declared.sizes.Mode.TheVariants.{Operand}
 use Rattle.grammar.specs.Scan.{scanned, at, empty}
 use Rattle.grammar.proofs.Sound.{scanned_is}
@@ -8,7 +7,7 @@ use Rattle.grammar.proofs.scan.scan.Goals as goal
 pub returns-in_err-size : goal.returns-in_err-size
 returns-in_err-size c =
     let same = ap (scanned (at Operand 0 empty)) (c.new-ahead.ensures.rest ∙ c.rest.ensures) in
-    rw c.from_residual.ensures (scanned_is (rest c.args.r.now) (rest c.args.r.now) None (sym same ∙ c.in_err-size.ensures) (λ e. refl))
+    rw c.from_residual.ensures (scanned_is _ _ None (sym same ∙ c.in_err-size.ensures) (λ e. search rules))
 
 pub returns : goal.returns
 returns c =
