@@ -1,6 +1,10 @@
 -- The row that is found is the user's part of the state.
-use Rattle.std.proofs.Common.{◌≡◌, ℕ, ◌<◌, Bool, false, ◌&&◌, T, eqb, ltb, position, Some, None, Decides, sym, subst, ⊎_elim, eqb→eq, lt→ltb}
+use Rattle.std.proofs.Common.{◌≡◌, ℕ, ◌<◌, ◌≤◌, Bool, false, ◌&&◌, T, eqb, ltb, List, length, position, Some, None, Decides, sym, ap, ◌∙◌, subst, ⊎_elim, inl, inr, eqb→eq, lt→ltb, arith}
 use Rattle.std.proofs.lemmas.Bool.{cases_eq, eq-eqb}
+use Rattle.std.specs.List.{find, position_or_len, slice_get}
+use Rattle.std.proofs.lemmas.Grind.{common_steps}
+use Rattle.std.proofs.lemmas.List.Folds.{find_at}
+use Rattle.std.proofs.lemmas.Option.{slice_get_within, slice_get_cases, get_or_from_slice_get, none-some}
 use mathlib.Core.Path.{subst⁻¹, fun_ext}
 use Rattle.meaning.specs.Measures.{users}
 use Rattle.meaning.specs.Membership.{Member}
@@ -10,7 +14,7 @@ use Rattle.rbac.specs.declared.sets.RoleSet.{RoleSet}
 use Rattle.rbac.specs.Roles.{roles_of, no_role}
 use Rattle.tables.specs.declared.entries.Row.{Row}
 use Rattle.tables.specs.declared.tables.Tables.{Tables}
-use Rattle.tables.specs.Rows.{row_at, is_of}
+use Rattle.tables.specs.Rows.{no_row, row_at, is_of}
 use Rattle.tables.specs.View.{assigned, rows_of, state_of, policy_of}
 use Rattle.tables.proofs.Placing.{assigned_gives, assigned_at}
 use Rattle.tables.proofs.Rowing.{not_of, none_at, holder_gives, found_inside, found_number, found_alone}
@@ -42,6 +46,33 @@ row_found t u i small at = fun_ext (λ r. agree (roles_of x.roles r) (ltb u user
 pub row_none : (t : Tables) (u : ℕ) → position (is_of u) (rows_of t) ≡ None → no_role ≡ state_of t u
 row_none t u none = fun_ext (λ r. agree false (state_of t u r) (λ h. absurd h)
     (λ h. let (j, l, used, e) = holder_gives t u (r, h) in not_of u (row_at (rows_of t) j) (none_at (is_of u) (rows_of t) none j l) used (sym e)))
+
+-- the first row that passes stands at the first place that does
+first_at : (p : Row → Bool) (xs : List Row) (x : Row) → find p xs ≡ Some x → (i : ℕ) × (position p xs ≡ Some i) × (row_at xs i ≡ x)
+first_at p xs x e =
+    let n : ℕ = position_or_len p xs in
+    let at : slice_get xs n ≡ Some x = sym (find_at p xs) ∙ e in
+    let inside : n < length xs = slice_get_within xs n x at in
+    (n, grind (arith, common_steps), get_or_from_slice_get xs n x no_row at)
+
+no_first : (p : Row → Bool) (xs : List Row) → find p xs ≡ None → position p xs ≡ None
+no_first p xs e =
+    let n : ℕ = position_or_len p xs in
+    let at : slice_get xs n ≡ None = sym (find_at p xs) ∙ e in
+    let past : length xs ≤ n = elim (slice_get_cases xs n).1 [
+      | inl (x, l, some, is) ↦ absurd (none-some x (sym at ∙ some))
+      | inr (l, none) ↦ l
+    ] in
+    grind (arith, common_steps)
+
+-- the same of a row that is handed out: its roles are what the state says of the user
+pub row_roles : (t : Tables) (u : ℕ) (x : Row) → u < users → find (is_of u) (rows_of t) ≡ Some x → roles_of x.roles ≡ state_of t u
+row_roles t u x small e =
+    let (i, at, is) = first_at (is_of u) (rows_of t) x e in
+    ap (λ (y : Row). roles_of y.roles) (sym is) ∙ row_found t u i small at
+
+pub no_row_roles : (t : Tables) (u : ℕ) → find (is_of u) (rows_of t) ≡ None → no_role ≡ state_of t u
+no_row_roles t u e = row_none t u (no_first (is_of u) (rows_of t) e)
 
 -- a permission is had where its roles and the user's memberships meet
 pub permission_told : (t : Tables) (u n : ℕ) (row given reached : RoleSet) (r : Bool) → roles_of given ≡ (policy_of t).gives n

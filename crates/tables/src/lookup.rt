@@ -13,8 +13,8 @@ impl Tables {
     pub fn assigned(&self, user: User) -> RoleSet
         ensures { roles_of result ≡ state_of self.now user.number }
     {
-        match self.rows.place_of(user) {
-            Some(place) => self.rows.entries()[place].roles,
+        match self.rows.row_of(user) {
+            Some(row) => row.roles,
             None => RoleSet::empty(),
         }
     }

@@ -1,5 +1,5 @@
 // The rows of a board. A row is found by its user, lent for a change, and free again when its last role goes; no user has two.
-ghost use Rattle.std.specs.Prelude.{◌≡◌, ℕ, ◌<◌, false, true, not, ◌&&◌, nat_lt, length, position, Decides, MatchOption};
+ghost use Rattle.std.specs.Prelude.{◌≡◌, ℕ, ◌<◌, false, true, not, ◌&&◌, nat_lt, length, find, option_copied, position, Decides, MatchOption};
 ghost use Rattle.std.specs.Fn.{FnOnceReturnsAtMut};
 ghost use Rattle.meaning.specs.Measures.{users, rows};
 ghost use Rattle.tables.specs.Rows.{Blank, OneRowEach, Given, Taken, Lent, LeavesOneRowEach, is_used, is_of, row_at};
@@ -30,7 +30,7 @@ impl Row {
     fn is_of(&self, user: User) -> bool
         ensures { result ≡ is_of user.number self.now }
     {
-        self.is_used() && self.user == user
+        self.user == user && self.is_used()
     }
 
     /// The user, where the row is in use.
@@ -114,6 +114,13 @@ impl Rows {
         ensures { Lent (λ old new. FnOnceReturnsAtMut F.FnOnce change old tt new) self.old.list place self.new.list }
     {
         change(&mut self.list[place]);
+    }
+
+    // The user's row.
+    pub(crate) fn row_of(&self, user: User) -> Option<&Row>
+        ensures { option_copied result ≡ find (is_of user.number) self.now.list }
+    {
+        self.list.iter().find(|row| row.is_of(user))
     }
 
     // The place of the user's row, counted from 0.
